@@ -1,0 +1,4 @@
+pub mod Faults
+pub mod Numbers
+pub mod Places
+pub mod Laws

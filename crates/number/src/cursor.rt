@@ -1,0 +1,85 @@
+// A place in a borrowed file, from which numbers are read one after another.
+ghost use mathlib.Core.Bool.{true};
+ghost use mathlib.Core.Path.{_≡_};
+ghost use lib.Dec.{leb};
+ghost use lib.ListN.{length};
+ghost use Rattle.std.specs.Results.{isErr};
+ghost use Rattle.number.specs.Numbers.{numberAt, Gave};
+ghost use Rattle.number.specs.Places.{file-of, place-of};
+use crate::fault::NumberFault;
+
+/// Most groups that a number has.
+const MAX_GROUPS: u8 = 5;
+
+/// A file and the place in it up to which it was read.
+#[derive(Drop)]
+pub struct Cursor<'a> {
+    file: &'a [u8],
+    place: usize,
+}
+
+impl<'a> Cursor<'a> {
+    /// A cursor at the first byte of the file.
+    pub fn new(file: &'a [u8]) -> Cursor<'a>
+        ensures file { λ r. ⌜ file-of r ≡ now (file .entry) ⌝ }
+        ensures place { λ r. ⌜ place-of r ≡ 0 ⌝ }
+    {
+        Cursor { file, place: 0 }
+    }
+
+    /// How many bytes stand before the cursor.
+    pub fn place(&self) -> usize
+        ensures { λ r. ⌜ r ≡ place-of (now (self .entry)) ⌝ }
+    {
+        self.place
+    }
+
+    /// Whether no byte stands behind the cursor.
+    pub fn at_end(&self) -> bool
+        ensures { λ r. ⌜ r ≡ leb (length (file-of (now (self .entry)))) (place-of (now (self .entry))) ⌝ }
+    {
+        self.place >= self.file.len()
+    }
+
+    /// Reads the number that begins here and moves behind it.
+    ///
+    /// Refuses a number that the file's end cuts (1), that stands in more groups than it needs (2) or that is
+    /// above 4,294,967,295 (3), at the place where the number began; the cursor then stays there.
+    pub fn number(&mut self) -> Result<u32, NumberFault>
+        ensures file { λ _. ⌜ file-of (now (self .exit)) ≡ file-of (now (self .entry)) ⌝ }
+        ensures gave { λ r. ⌜ Gave r (place-of (now (self .exit))) (numberAt (file-of (now (self .entry))) (place-of (now (self .entry)))) ⌝ }
+        ensures stays { λ r. ⌜ (isErr r ≡ true → place-of (now (self .exit)) ≡ place-of (now (self .entry))) ⌝ }
+    {
+        let (value, place) = number_from(self.file, self.place)?;
+        self.place = place;
+        Ok(value)
+    }
+}
+
+// The number that begins at `start`, and the place behind it.
+fn number_from(file: &[u8], start: usize) -> Result<(u32, usize), NumberFault>
+    ensures { λ r. ⌜ r ≡ numberAt (now (file .entry)) start ⌝ }
+{
+    let mut at = start;
+    let mut value: u32 = 0;
+    let mut scale: u32 = 1;
+    for group in 0..MAX_GROUPS {
+        if at >= file.len() {
+            return Err(NumberFault::Cut(start));
+        }
+        let b = file[at];
+        if group == 4 && b >= 16 {
+            return Err(NumberFault::Oversize(start));
+        }
+        if b < 128 {
+            if group > 0 && b == 0 {
+                return Err(NumberFault::Padded(start));
+            }
+            return Ok((value + scale * u32::from(b), at + 1));
+        }
+        value += scale * u32::from(b - 128);
+        scale *= 128;
+        at += 1;
+    }
+    unreachable()
+}

@@ -1,0 +1,4 @@
+// Numbers of rule-set files: groups of seven bits, lowest first, read from a file and put into one.
+pub mod cursor;
+pub mod fault;
+pub mod laws;
