@@ -1,4 +1,6 @@
 pub mod Faults
 pub mod Numbers
 pub mod Places
+pub mod Signed
+pub mod Puts
 pub mod Laws

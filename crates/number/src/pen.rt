@@ -1,0 +1,62 @@
+// A pen that puts bytes and numbers into a slice, one behind the other.
+ghost use mathlib.Core.List.{[], _∷_};
+ghost use mathlib.Core.Path.{_≡_};
+ghost use denote.Ref.{name};
+ghost use Rattle.number.specs.Numbers.{bytes};
+ghost use Rattle.number.specs.Puts.{Puts, pen-of};
+
+/// The slice has no room for what was to be put.
+#[derive(Clone, Copy, PartialEq, Eq, Debug)]
+pub struct Short;
+
+/// Puts bytes into a slice from its first byte on; a dry pen counts them and changes nothing.
+#[derive(Drop)]
+pub struct Pen<'a> {
+    out: &'a mut [u8],
+    place: usize,
+    dry: bool,
+}
+
+impl<'a> Pen<'a> {
+    /// A pen at the first byte of `out`, dry or not.
+    pub fn new(out: &'a mut [u8], dry: bool) -> Pen<'a>
+        ensures { λ r. ⌜ pen-of r ≡ record { out = now (out .entry); place = 0; dry = dry; slice = name (out .entry) } ⌝ }
+    {
+        Pen { out, place: 0, dry }
+    }
+}
+
+impl Pen<'_> {
+    /// How many bytes were put.
+    pub fn place(&self) -> usize
+        ensures { λ r. ⌜ r ≡ pen-of (now (self .entry)) .place ⌝ }
+    {
+        self.place
+    }
+
+    /// Puts one byte; refuses at the end of the slice, and then changes nothing.
+    pub fn put(&mut self, b: u8) -> Result<(), Short>
+        ensures { λ r. ⌜ Puts r (pen-of (now (self .entry))) (pen-of (now (self .exit))) (b ∷ []) ⌝ }
+    {
+        if self.place >= self.out.len() {
+            return Err(Short);
+        }
+        if !self.dry {
+            self.out[self.place] = b;
+        }
+        self.place += 1;
+        Ok(())
+    }
+
+    /// Puts the groups of `n`; refuses where they do not all fit, and then a dry pen has still changed nothing.
+    pub fn put_number(&mut self, n: u32) -> Result<(), Short>
+        ensures { λ r. ⌜ Puts r (pen-of (now (self .entry))) (pen-of (now (self .exit))) (bytes n) ⌝ }
+    {
+        let mut rest = n;
+        while rest >= 128 {
+            self.put((rest % 128 + 128) as u8)?;
+            rest /= 128;
+        }
+        self.put(rest as u8)
+    }
+}
