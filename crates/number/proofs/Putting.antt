@@ -30,9 +30,10 @@ out-length false s t bs p a = ap length a ∙ length-sets s p bs
 
 pub put-none : (s : State) → Put s s []
 put-none s = record { place = omega arith; within = λ h. h; out = none (s .dry) (s .out); dry = refl; slice = refl }
-  where none : (dry : Bool) (l : List ℕ) → l ≡ cond dry l l
-        none true l = refl
-        none false l = refl
+  where
+    none : (dry : Bool) (l : List ℕ) → l ≡ cond dry l l
+    none true l = refl
+    none false l = refl
 
 pub put-more : (s t u : State) (bs cs : List ℕ) → Put s t bs → Put t u cs → Put s u (bs ++ cs)
 put-more s t u bs cs a b =

@@ -14,5 +14,9 @@ pub fn to_signed(n: u32) -> i32
 pub fn from_signed(z: i32) -> u32
     ensures { λ r. ⌜ r ≡ unsigned z ⌝ }
 {
-    if z >= 0 { 2 * (z as u32) } else { 2 * ((-1 - z) as u32) + 1 }
+    if z >= 0 {
+        2 * (z as u32)
+    } else {
+        2 * ((-1 - z) as u32) + 1
+    }
 }
