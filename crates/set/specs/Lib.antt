@@ -1,0 +1,2 @@
+-- What a set stands for.
+pub mod Sets

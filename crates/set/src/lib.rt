@@ -1,0 +1,3 @@
+// The rule set in memory, and its reader.
+mod make;
+pub mod set;

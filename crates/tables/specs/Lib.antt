@@ -1,0 +1,3 @@
+-- What the tables of a set stand for.
+pub mod Spans
+pub mod Views
