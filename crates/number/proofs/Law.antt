@@ -15,6 +15,7 @@ use Rattle.std.proofs.shelf.Tests.{cases-lt, lt-ltb, le-ltb}
 use Rattle.std.specs.shelf.Lists.{All}
 use Rattle.std.specs.declared.result.Result.the-variants.{Ok, Err}
 use Rattle.number.specs.Numbers.{groups, numberAt, bytes, bytesBy}
+use Rattle.number.specs.Forms.{number-limit}
 use Rattle.number.specs.Laws.{Written-is-read, Read-was-written}
 
 -- one group alone
@@ -43,12 +44,12 @@ reads s g v m at (suc k) n rest gk small pos = elim (cases-lt n 128) [
 ]
 
 -- the number whose bytes stand at p
-pub number-reads : (file : List ℕ) (p n : ℕ) (rest : List ℕ) → n < 2 ^ 32 → drop p file ≡ bytes n ++ rest → numberAt file p ≡ Ok (n, p + length (bytes n))
+pub number-reads : (file : List ℕ) (p n : ℕ) (rest : List ℕ) → n < number-limit → drop p file ≡ bytes n ++ rest → numberAt file p ≡ Ok (n, p + length (bytes n))
 unfolding numberAt bytes
 number-reads file p n rest h e =
     ap (groups p 0 0 1 p) e ∙ (reads p 0 0 1 p 4 n rest refl (omega arith) (λ z. omega arith) ∙ (let e : 0 + 1 * n ≡ n = omega arith in rw e refl))
 
-written : Written-is-read
+pub written : Written-is-read
 written n before after h = number-reads (before ++ (bytes n ++ after)) (length before) n after h (drop-at before (bytes n ++ after) (length before) refl)
 
 -- what reading the groups bs says of them
@@ -120,6 +121,3 @@ read file p n q small e =
     let b : w .rest ≡ drop q file = behind file p (bytesBy 4 n) (w .rest) s ∙ ap (λ x. drop x file) (sym l) in
     let low : n < 16 * 128 ^ 4 = rw (four, same) at (w .small) in
     (low, rw b at s, l)
-
-pub laws : Written-is-read × Read-was-written
-laws = (written, read)

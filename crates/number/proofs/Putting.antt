@@ -1,20 +1,17 @@
-use Prim.Native.Nat.{ℕ, zero, suc, _+_, _*_, _/_, _%_, _^_, _<_, _≤_}
+-- What a pen did, put together: one call after another, a loop over a list, a dry run and then the other.
+use Prim.Native.Nat.{ℕ, suc, _+_, _-_, _<_, _≤_}
 use mathlib.Core.List.{List, [], _∷_, _++_}
 use mathlib.Core.Bool.{Bool, true, false, cond}
 use mathlib.Core.Path.{_≡_, refl, sym, ap, subst, _∙_}
 use lib.ListN.{length, set, take, drop, getD}
 use lib.Seq.{sets, length-sets, sets-eq}
-use lib.Dec.{ltb}
-use native.Mathlib.Nat.{pow-suc}
-use Rattle.std.proofs.shelf.Tests.{lt-ltb, le-ltb}
-use Rattle.std.proofs.shelf.Bits.{div-below}
-use Rattle.number.specs.Numbers.{bytes, bytesBy}
+use native.Mathlib.Nat.{zero-add}
 use native.Mathlib.Omega.{arith}
-use Rattle.std.proofs.shelf.Lists.{length-append, append-assoc, joined-more, take-more, take-append-drop, take-all}
-use Rattle.std.specs.shelf.Lists.{joined}
-use Rattle.number.specs.Puts.{State, Put, Full, Puts, Ran, Written}
 use Rattle.std.specs.declared.result.Result.{Result}
 use Rattle.std.specs.declared.result.Result.the-variants.{Ok, Err}
+use Rattle.std.specs.shelf.Lists.{joined}
+use Rattle.std.proofs.shelf.Lists.{length-append, append-assoc, joined-more, take-more, take-append-drop, take-append-le, take-all}
+use Rattle.number.specs.Puts.{State, Put, Full, Puts, Ran, Written}
 
 sets-append : (bs cs l : List ℕ) (i : ℕ) → sets (sets l i bs) (i + length bs) cs ≡ sets l i (bs ++ cs)
 sets-append [] cs l i = let e : i + 0 ≡ i = omega arith in rw e refl
@@ -28,8 +25,26 @@ out-length : (dry : Bool) (s t bs : List ℕ) (p : ℕ) → t ≡ cond dry s (se
 out-length true s t bs p a = ap length a
 out-length false s t bs p a = ap length a ∙ length-sets s p bs
 
+-- a pen leaves the length of its slice
+put-length : (s t : State) (bs : List ℕ) → Put s t bs → length (t .out) ≡ length (s .out)
+put-length s t bs a = out-length (s .dry) (s .out) (t .out) bs (s .place) (a .out)
+
+-- a dry pen leaves its slice
+dry-same : (s t : State) (bs : List ℕ) → Put s t bs → s .dry ≡ true → t .out ≡ s .out
+dry-same s t bs a d = a .out ∙ ap (λ x. cond x (s .out) (sets (s .out) (s .place) bs)) d
+
+take-past : (bs cs : List ℕ) (k : ℕ) → take (length bs + k) (bs ++ cs) ≡ bs ++ take k cs
+take-past [] cs k = ap (λ n. take n cs) (zero-add k)
+take-past (b ∷ bs) cs k = let e : suc (length bs) + k ≡ suc (length bs + k) = omega arith in rw e (ap (λ l. b ∷ l) (take-past bs cs k))
+
+-- what has room for bs and then for a part of cs
+room-more : (s t : State) (bs cs : List ℕ) → Put s t bs → bs ++ take (length (t .out) - t .place) cs ≡ take (length (s .out) - s .place) (bs ++ cs)
+room-more s t bs cs a =
+    let e : length (s .out) - s .place ≡ length bs + (length (t .out) - t .place) = omega (arith, put-length s t bs a, a .place, a .within) in
+    sym (take-past bs cs (length (t .out) - t .place)) ∙ ap (λ k. take k (bs ++ cs)) (sym e)
+
 pub put-none : (s : State) → Put s s []
-put-none s = record { place = omega arith; within = λ h. h; out = none (s .dry) (s .out); dry = refl; slice = refl }
+put-none s = record { place = omega arith; within = omega arith; out = none (s .dry) (s .out); dry = refl; slice = refl }
   where
     none : (dry : Bool) (l : List ℕ) → l ≡ cond dry l l
     none true l = refl
@@ -37,49 +52,44 @@ put-none s = record { place = omega arith; within = λ h. h; out = none (s .dry)
 
 pub put-more : (s t u : State) (bs cs : List ℕ) → Put s t bs → Put t u cs → Put s u (bs ++ cs)
 put-more s t u bs cs a b =
-    let l = out-length (s .dry) (s .out) (t .out) bs (s .place) (a .out) in
+    let l = put-length s t bs a in
     let n = length-append bs cs in
     let o : u .out ≡ cond (s .dry) (t .out) (sets (t .out) (s .place + length bs) cs) = (rw (a .place, a .dry) at (b .out)) in
-    record { place = omega (arith, a .place, b .place); within = λ h. (let k = a .within h in let m = b .within (omega arith) in omega arith); out = out-more (s .dry) (s .out) (t .out) (u .out) bs cs (s .place) (a .out) o; dry = b .dry ∙ a .dry; slice = b .slice ∙ a .slice }
+    record {
+      place = omega (arith, a .place, b .place);
+      within = omega (arith, a .within, b .within);
+      out = out-more (s .dry) (s .out) (t .out) (u .out) bs cs (s .place) (a .out) o;
+      dry = b .dry ∙ a .dry;
+      slice = b .slice ∙ a .slice;
+    }
 
 pub put-full : (s t u : State) (bs cs : List ℕ) → Put s t bs → Full t u cs → Full s u (bs ++ cs)
 put-full s t u bs cs a b =
-    let l = out-length (s .dry) (s .out) (t .out) bs (s .place) (a .out) in
+    let l = put-length s t bs a in
     let n = length-append bs cs in
-    record { short = omega (arith, a .place, b .short); same = λ d. b .same (a .dry ∙ d) ∙ (a .out ∙ ap (λ x. cond x (s .out) (sets (s .out) (s .place) bs)) d); slice = b .slice ∙ a .slice }
+    record {
+      short = omega (arith, a .place, b .short);
+      front = subst (Put s u) (room-more s t bs cs a) (put-more s t u bs _ a (b .front));
+    }
 
 pub full-front : (s t : State) (bs cs : List ℕ) → Full s t bs → Full s t (bs ++ cs)
-full-front s t bs cs a = let n = length-append bs cs in record { short = omega (arith, a .short); same = a .same; slice = a .slice }
-
--- the groups of a number
-pub group-first : (k n : ℕ) → 128 ≤ n → n < 16 * 128 ^ k → (j : ℕ) × (bytesBy k n ≡ (n % 128 + 128) ∷ bytesBy j (n / 128)) × (n / 128 < 16 * 128 ^ j)
-group-first zero n h l = absurd (omega arith)
-group-first (suc j) n h l =
-    let e : 128 + n % 128 ≡ n % 128 + 128 = omega arith in
-    (j, rw (le-ltb n 128 h, e) refl, div-below n 128 (16 * 128 ^ j) (omega arith) (omega (arith, pow-suc 128 j)))
-
-pub group-last : (k n : ℕ) → n < 128 → bytesBy k n ≡ n ∷ []
-group-last zero n h = refl
-group-last (suc k) n h = rw (lt-ltb n 128 h) refl
-
-pub step-bytes : (done all : List ℕ) (k n : ℕ) → 128 ≤ n → n < 16 * 128 ^ k → done ++ bytesBy k n ≡ all → (j : ℕ) × ((done ++ (n % 128 + 128) ∷ []) ++ bytesBy j (n / 128) ≡ all) × (n / 128 < 16 * 128 ^ j)
-step-bytes done all k n h l e =
-    let g = group-first k n h l in
-    (g .0, append-assoc done ((n % 128 + 128) ∷ []) (bytesBy (g .0) (n / 128)) ∙ (ap (λ x. done ++ x) (sym (g .1)) ∙ e), g .2)
-
-pub last-bytes : (done all : List ℕ) (k n : ℕ) → n < 128 → done ++ bytesBy k n ≡ all → done ++ n ∷ [] ≡ all
-last-bytes done all k n h e = ap (λ x. done ++ x) (sym (group-last k n h)) ∙ e
+full-front s t bs cs a =
+    let n = length-append bs cs in
+    record {
+      short = omega (arith, a .short);
+      front = subst (Put s t) (sym (take-append-le _ bs cs (omega (arith, a .short)))) (a .front);
+    }
 
 -- one call after another
 pub puts-more : {T E : Type 0} (r : Result T E) (s t u : State) (bs cs : List ℕ) → Put s t bs → Puts r t u cs → Puts r s u (bs ++ cs)
 puts-more (Ok x) s t u bs cs a b = put-more s t u bs cs a b
 puts-more (Err e) s t u bs cs a b = put-full s t u bs cs a b
 
--- a loop over a list
+-- the bytes of the elements of a list, one behind the other
 pub joined-step : {X : Type 0} (f : X → List ℕ) (xs : List X) (i : ℕ) (d : X) → i < length xs → joined f (take i xs) ++ f (getD xs i d) ≡ joined f (take (i + 1) xs)
 joined-step f xs i d h = joined-more f [] (take i xs) (getD xs i d) ∙ ap (joined f) (sym (take-more xs i d h))
 
-joined-append : {X : Type 0} (f : X → List ℕ) (us bs : List X) → joined f (us ++ bs) ≡ joined f us ++ joined f bs
+pub joined-append : {X : Type 0} (f : X → List ℕ) (us bs : List X) → joined f (us ++ bs) ≡ joined f us ++ joined f bs
 joined-append f [] bs = refl
 joined-append f (a ∷ us) bs = ap (λ x. f a ++ x) (joined-append f us bs) ∙ sym (append-assoc (f a) (joined f us) (joined f bs))
 
@@ -106,6 +116,14 @@ module _ {X : Type 0} (f : X → List ℕ) (xs : List X) (i : ℕ) (d : X) where
 
     pub loop-full-at : (s t u : State) → i < length xs → Put s t (joined f (take i xs)) → Full t u (f x) → Full s u (joined f xs)
     loop-full-at s t u h a b = loop-full s t u h a (subst (λ (z : X). Full t u (f z)) (sym e) b)
+
+-- a pen that began at the first byte: what it put, or that the slice is too short
+pub ran-all : (s t : State) (bs : List ℕ) → s .place ≡ 0 → Put s t bs → (t .place ≡ length bs) × (t .place ≤ length (s .out)) × (t .out ≡ cond (s .dry) (s .out) (sets (s .out) 0 bs))
+ran-all s t bs z a =
+    (omega (arith, a .place), omega (arith, a .within), a .out ∙ ap (λ p. cond (s .dry) (s .out) (sets (s .out) p bs)) z)
+
+pub ran-full : (s t : State) (bs : List ℕ) → s .place ≡ 0 → Full s t bs → (length (s .out) < length bs) × (s .dry ≡ true → t .out ≡ s .out)
+ran-full s t bs z a = (omega (arith, a .short), dry-same s t _ (a .front))
 
 -- a dry run that fitted, and then the other
 pub run-both : {E : Type 0} (r : Result ℕ E) (n : ℕ) (bs before mid after : List ℕ) → (n ≡ length bs) × (n ≤ length before) × (mid ≡ before) → Ran r false bs mid after → Written r bs before after

@@ -3,4 +3,5 @@ pub mod Numbers
 pub mod Places
 pub mod Signed
 pub mod Puts
+pub mod Forms
 pub mod Laws

@@ -7,9 +7,10 @@ ghost use Rattle.std.specs.Results.{isErr};
 ghost use Rattle.number.specs.Numbers.{numberAt, Gave};
 ghost use Rattle.number.specs.Places.{file-of, place-of};
 use crate::fault::NumberFault;
-
-/// Most groups that a number has.
-const MAX_GROUPS: u8 = 5;
+use crate::limits::GROUP_VALUES;
+use crate::limits::MAX_GROUPS;
+use crate::limits::MORE;
+use crate::limits::TOP_GROUP_VALUES;
 
 /// A file and the place in it up to which it was read.
 #[derive(Drop)]
@@ -68,17 +69,17 @@ fn number_from(file: &[u8], start: usize) -> Result<(u32, usize), NumberFault>
             return Err(NumberFault::Cut(start));
         }
         let b = file[at];
-        if group == 4 && b >= 16 {
+        if group == MAX_GROUPS - 1 && b >= TOP_GROUP_VALUES {
             return Err(NumberFault::Oversize(start));
         }
-        if b < 128 {
+        if b < MORE {
             if group > 0 && b == 0 {
                 return Err(NumberFault::Padded(start));
             }
             return Ok((value + scale * u32::from(b), at + 1));
         }
-        value += scale * u32::from(b - 128);
-        scale *= 128;
+        value += scale * u32::from(b - MORE);
+        scale *= GROUP_VALUES;
         at += 1;
     }
     unreachable()

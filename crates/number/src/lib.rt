@@ -2,5 +2,8 @@
 pub mod cursor;
 pub mod fault;
 pub mod laws;
+mod limits;
 pub mod pen;
 pub mod signed;
+#[cfg(test)]
+mod tests;

@@ -4,6 +4,8 @@ ghost use mathlib.Core.Path.{_≡_};
 ghost use denote.Ref.{name};
 ghost use Rattle.number.specs.Numbers.{bytes};
 ghost use Rattle.number.specs.Puts.{Puts, pen-of};
+use crate::limits::GROUP_VALUES;
+use crate::limits::MORE;
 
 /// The slice has no room for what was to be put.
 #[derive(Clone, Copy, PartialEq, Eq, Debug)]
@@ -20,7 +22,10 @@ pub struct Pen<'a> {
 impl<'a> Pen<'a> {
     /// A pen at the first byte of `out`, dry or not.
     pub fn new(out: &'a mut [u8], dry: bool) -> Pen<'a>
-        ensures { λ r. ⌜ pen-of r ≡ record { out = now (out .entry); place = 0; dry = dry; slice = name (out .entry) } ⌝ }
+        ensures out { λ r. ⌜ pen-of r .out ≡ now (out .entry) ⌝ }
+        ensures place { λ r. ⌜ pen-of r .place ≡ 0 ⌝ }
+        ensures dry { λ r. ⌜ pen-of r .dry ≡ dry ⌝ }
+        ensures slice { λ r. ⌜ pen-of r .slice ≡ name (out .entry) ⌝ }
     {
         Pen { out, place: 0, dry }
     }
@@ -34,8 +39,8 @@ impl Pen<'_> {
         self.place
     }
 
-    /// Puts one byte; refuses at the end of the slice, and then changes nothing.
-    pub fn put(&mut self, b: u8) -> Result<(), Short>
+    // Puts one byte; refuses at the end of the slice.
+    fn put(&mut self, b: u8) -> Result<(), Short>
         ensures { λ r. ⌜ Puts r (pen-of (now (self .entry))) (pen-of (now (self .exit))) (b ∷ []) ⌝ }
     {
         if self.place >= self.out.len() {
@@ -53,9 +58,9 @@ impl Pen<'_> {
         ensures { λ r. ⌜ Puts r (pen-of (now (self .entry))) (pen-of (now (self .exit))) (bytes n) ⌝ }
     {
         let mut rest = n;
-        while rest >= 128 {
-            self.put((rest % 128 + 128) as u8)?;
-            rest /= 128;
+        while rest >= GROUP_VALUES {
+            self.put((rest % GROUP_VALUES) as u8 + MORE)?;
+            rest /= GROUP_VALUES;
         }
         self.put(rest as u8)
     }

@@ -23,8 +23,8 @@ returns-then-at-file c =
     sym (at-drop-all (groups (c .args .start) (c .loop-group .group) (c .loop-group .value) (c .loop-group .scale) (c .loop-group .at)) (c .args .file .now) (c .loop-group .at) (omega arith))
     ∙ c .loop-group .inv .0
 
-pub returns-then-b-ge16 : need.returns-then-b-ge16
-returns-then-b-ge16 c =
+pub returns-then-b-ge-TOP-GROUP-VALUES : need.returns-then-b-ge-TOP-GROUP-VALUES
+returns-then-b-ge-TOP-GROUP-VALUES c =
     let e = turn (c .args .start) (c .loop-group .group) (c .loop-group .value) (c .loop-group .scale) (c .loop-group .at) (c .args .file .now) (omega arith) in
     grind (arith, tells)
 
@@ -41,8 +41,8 @@ pub add-result : need.add-result
 add-result c =
     let p = last-fits (c .loop-group .group) (c .loop-group .scale) (c .loop-group .value) (c .from .result) (c .loop-group .inv .1) (omega arith) (omega arith) (omega arith) (grind arith) in omega arith
 
-pub returns-then-b-lt128 : need.returns-then-b-lt128
-returns-then-b-lt128 c =
+pub returns-then-b-lt-MORE : need.returns-then-b-lt-MORE
+returns-then-b-lt-MORE c =
     let e = turn (c .args .start) (c .loop-group .group) (c .loop-group .value) (c .loop-group .scale) (c .loop-group .at) (c .args .file .now) (omega arith) in
     grind (arith, tells)
 

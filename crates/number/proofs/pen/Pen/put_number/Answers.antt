@@ -6,7 +6,8 @@ use native.Mathlib.Omega.{arith}
 use Rattle.std.proofs.shelf.Results.{err-from-errBy}
 use Rattle.number.specs.Numbers.{bytes, bytesBy}
 use Rattle.number.specs.Puts.{Put, Full, Puts, pen-of}
-use Rattle.number.proofs.Putting.{put-none, put-more, put-full, full-front, step-bytes, last-bytes, puts-more}
+use Rattle.number.proofs.Putting.{put-none, put-more, put-full, full-front, puts-more}
+use Rattle.number.proofs.Bytes.{step-bytes, last-bytes}
 use Rattle.number.proofs.pen.Pen.put_number.Needs as need
 
 pub loop-rest-holds : need.loop-rest-holds
