@@ -1,16 +1,15 @@
 -- The bytes of a number are its shortest form, and the only one.
 use Prim.Native.Nat.{ℕ, zero, suc, _+_, _*_, _-_, _^_, _/_, _%_, _<_, _≤_}
-use mathlib.Core.List.{List, [], _∷_, _++_}
-use mathlib.Core.Path.{_≡_, refl, sym, ap, subst, _∙_}
-use mathlib.Core.Logic.{_⊎_, inl, inr}
-use lib.Dec.{ltb}
+use mathlib.Core.List.{List}
+use mathlib.Core.Path.{_≡_, refl, subst}
+use mathlib.Core.Logic.{inl, inr}
 use lib.ListN.{length}
 use native.Mathlib.Omega.{arith}
 use native.Mathlib.Nat.{pow-suc}
 use Rattle.std.proofs.shelf.Bits.{div-add-mod', div-below}
 use Rattle.std.proofs.shelf.Tests.{cases-lt, lt-ltb, le-ltb}
-use Rattle.number.specs.Numbers.{bytes, bytesBy}
-use Rattle.number.specs.Forms.{Form, last, more, Shortest, number-limit}
+use Rattle.number.specs.Numbers.{number-limit, bytes, bytesBy}
+use Rattle.number.specs.Forms.{Form, last, more, Shortest}
 
 form-bytesBy : (k n : ℕ) → n < 16 * 128 ^ k → Form n (bytesBy k n)
 form-bytesBy zero n h = last (omega arith)

@@ -1,23 +1,24 @@
+-- One group of a number: what reading it says, and that its sum fits 32 bits.
 use Prim.Native.Nat.{ℕ, _+_, _*_, _-_, _^_, _<_, _≤_}
-use mathlib.Core.List.{List, [], _∷_}
-use mathlib.Core.Path.{_≡_, refl, sym, ap, _∙_}
-use mathlib.Core.Bool.{true, false, cond, _&&_}
-use lib.Dec.{ltb, eqb, leb}
+use mathlib.Core.List.{List}
+use mathlib.Core.Path.{_≡_}
+use mathlib.Core.Bool.{cond}
+use lib.Dec.{ltb}
 use lib.ListN.{length, drop, getD}
 use native.Mathlib.Omega.{arith}
-use native.Mathlib.Nat.{pow-le-pow-right, pow-suc}
+use native.Mathlib.Nat.{pow-le-pow-right}
 use mathlib.Core.Logic.{_⊎_, inl, inr}
 use Rattle.std.proofs.shelf.Bits.{mul-le}
-use Rattle.std.proofs.shelf.Lists.{at-drop-more, at-drop-all}
+use Rattle.std.proofs.shelf.Lists.{at-drop-more}
 use Rattle.std.specs.declared.result.Result.the-variants.{Ok, Err}
-use Rattle.number.specs.Numbers.{groups, numberAt}
-use Rattle.number.specs.declared.fault.NumberFault.the-variants.{Cut, Padded, Oversize}
+use Rattle.number.specs.Numbers.{groups, oversize-at, padding-at}
+use Rattle.number.specs.declared.fault.NumberFault.the-variants.{Padded, Oversize}
 
 -- one more group
 pub turn : (s g v m at : ℕ) (file : List ℕ) → at < length file → groups s g v m at (drop at file) ≡
-    cond (eqb g 4 && leb 16 (getD file at 0)) (Err (Oversize s))
+    cond (oversize-at g (getD file at 0)) (Err (Oversize s))
     (cond (ltb (getD file at 0) 128)
-    (cond (ltb 0 g && eqb (getD file at 0) 0) (Err (Padded s)) (Ok (v + m * getD file at 0, at + 1)))
+    (cond (padding-at g (getD file at 0)) (Err (Padded s)) (Ok (v + m * getD file at 0, at + 1)))
     (groups s (g + 1) (v + m * (getD file at 0 - 128)) (m * 128) (at + 1) (drop (at + 1) file)))
 turn s g v m at file h = at-drop-more (groups s g v m at) file at 0 h
 

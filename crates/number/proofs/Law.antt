@@ -1,10 +1,11 @@
+-- What was put is read, and what is read was put.
 use Prim.Native.Nat.{ℕ, zero, suc, _+_, _*_, _-_, _^_, _/_, _%_, _<_, _≤_}
 use mathlib.Core.List.{List, [], _∷_, _++_}
 use mathlib.Core.Path.{_≡_, refl, sym, ap, _∙_}
-use mathlib.Core.Bool.{true, false, cond, _&&_}
-use mathlib.Core.Logic.{_⊎_, inl, inr}
-use lib.Dec.{ltb, eqb, leb}
-use lib.ListN.{length, drop, getD}
+use mathlib.Core.Bool.{false}
+use mathlib.Core.Logic.{inl, inr}
+use lib.Dec.{ltb}
+use lib.ListN.{length, drop}
 use native.Mathlib.Omega.{arith}
 use native.Mathlib.Nat.{pow-suc, mul-assoc, mul-add, mul-comm}
 use Rattle.std.proofs.shelf.Lists.{drop-at, drop-drop}
@@ -13,9 +14,8 @@ use Rattle.std.proofs.shelf.Bits.{div-add-mod', div-below, div-mul-add, mod-mul
 use Rattle.std.proofs.shelf.Ways.{tells}
 use Rattle.std.proofs.shelf.Tests.{cases-lt, lt-ltb, le-ltb}
 use Rattle.std.specs.shelf.Lists.{All}
-use Rattle.std.specs.declared.result.Result.the-variants.{Ok, Err}
-use Rattle.number.specs.Numbers.{groups, numberAt, bytes, bytesBy}
-use Rattle.number.specs.Forms.{number-limit}
+use Rattle.std.specs.declared.result.Result.the-variants.{Ok}
+use Rattle.number.specs.Numbers.{number-limit, groups, numberAt, bytes, bytesBy}
 use Rattle.number.specs.Laws.{Written-is-read, Read-was-written}
 
 -- one group alone

@@ -1,10 +1,10 @@
 -- A number is read exactly where it stands.
-use Prim.Native.Nat.{ℕ, _+_}
-use mathlib.Core.List.{List, _++_}
-use mathlib.Core.Path.{_≡_, refl, sym, ap, _∙_}
+use Prim.Native.Nat.{_+_}
+use mathlib.Core.List.{_++_}
+use mathlib.Core.Path.{_≡_, sym, ap, _∙_}
 use lib.ListN.{length, drop}
 use Rattle.std.specs.declared.result.Result.the-variants.{Ok}
-use Rattle.number.specs.Numbers.{numberAt, bytes}
+use Rattle.number.specs.Numbers.{bytes}
 use Rattle.number.specs.Laws.{Read-stands, Standing-is-read}
 use Rattle.number.proofs.Forms.{shortest-bytes, shortest-same}
 use Rattle.number.proofs.Law.{number-reads, read}

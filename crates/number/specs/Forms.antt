@@ -1,19 +1,12 @@
 -- What it means that a number stands in a file, and what can be wrong with one: no word of how numbers are read.
-use Prim.Native.Nat.{ℕ, _+_, _-_, _*_, _^_, _<_, _≤_}
+use Prim.Native.Nat.{ℕ, _+_, _-_, _*_, _<_, _≤_}
 use mathlib.Core.List.{List, [], _∷_, _++_}
 use mathlib.Core.Path.{_≡_}
 use lib.ListN.{length, drop}
 use Rattle.std.specs.shelf.Lists.{All}
+use Rattle.number.specs.Numbers.{number-limit, most-groups, top-limit}
 use Rattle.number.specs.declared.fault.NumberFault.{NumberFault}
 use Rattle.number.specs.declared.fault.NumberFault.the-variants.{Cut, Padded, Oversize}
-
--- every number is below this
-abbrev pub number-limit : ℕ
-number-limit = 2 ^ 32
-
--- more groups no number needs
-abbrev pub most-groups : ℕ
-most-groups = 5
 
 -- the bytes bs are groups of n: seven bits each, lowest first, 128 added to all but the last
 pub data Form : ℕ → List ℕ → Type 0 where
@@ -43,4 +36,4 @@ pub data Wrong (p : ℕ) (bs : List ℕ) : NumberFault → Type 0 where
   -- a number stands there in more groups than it needs
   padded : (n : ℕ) (groups rest : List ℕ) → bs ≡ groups ++ rest → length groups ≤ most-groups → Form n groups → (Shortest n groups → ⊥) → Wrong p bs (Padded p)
   -- the fifth byte says more than the four bits that are left of 32
-  oversize : (front rest : List ℕ) (b : ℕ) → bs ≡ front ++ b ∷ rest → length front ≡ most-groups - 1 → All Carries front → 16 ≤ b → Wrong p bs (Oversize p)
+  oversize : (front rest : List ℕ) (b : ℕ) → bs ≡ front ++ b ∷ rest → length front ≡ most-groups - 1 → All Carries front → top-limit ≤ b → Wrong p bs (Oversize p)

@@ -1,3 +1,4 @@
+-- What numbers of a file are, and what reading and putting them means.
 pub mod Faults
 pub mod Numbers
 pub mod Places

@@ -1,3 +1,4 @@
+-- What a cursor is to a reader: a file, and a place in it.
 use Prim.Native.Nat.{ℕ}
 use mathlib.Core.List.{List}
 use denote.Ref.{now}

@@ -4,7 +4,7 @@ ghost use mathlib.Core.Path.{_≡_};
 ghost use lib.Dec.{leb};
 ghost use lib.ListN.{length};
 ghost use Rattle.std.specs.Results.{isErr};
-ghost use Rattle.number.specs.Numbers.{numberAt, Gave};
+ghost use Rattle.number.specs.Numbers.{numberAt, oversize-at, padding-at, Gave};
 ghost use Rattle.number.specs.Places.{file-of, place-of};
 use crate::fault::NumberFault;
 use crate::limits::GROUP_VALUES;
@@ -39,7 +39,7 @@ impl<'a> Cursor<'a> {
     pub fn at_end(&self) -> bool
         ensures { λ r. ⌜ r ≡ leb (length (file-of (now (self .entry)))) (place-of (now (self .entry))) ⌝ }
     {
-        self.place >= self.file.len()
+        self.file.len() <= self.place
     }
 
     /// Reads the number that begins here and moves behind it.
@@ -69,11 +69,11 @@ fn number_from(file: &[u8], start: usize) -> Result<(u32, usize), NumberFault>
             return Err(NumberFault::Cut(start));
         }
         let b = file[at];
-        if group == MAX_GROUPS - 1 && b >= TOP_GROUP_VALUES {
+        if oversized(group, b) {
             return Err(NumberFault::Oversize(start));
         }
         if b < MORE {
-            if group > 0 && b == 0 {
+            if padding(group, b) {
                 return Err(NumberFault::Padded(start));
             }
             return Ok((value + scale * u32::from(b), at + 1));
@@ -83,4 +83,18 @@ fn number_from(file: &[u8], start: usize) -> Result<(u32, usize), NumberFault>
         at += 1;
     }
     unreachable()
+}
+
+// Whether the byte `b`, with `group` groups before it, says more than the bits that are left of 32.
+fn oversized(group: u8, b: u8) -> bool
+    ensures { λ r. ⌜ r ≡ oversize-at group b ⌝ }
+{
+    group == MAX_GROUPS - 1 && b >= TOP_GROUP_VALUES
+}
+
+// Whether a last byte `b`, with `group` groups before it, could be left out.
+fn padding(group: u8, b: u8) -> bool
+    ensures { λ r. ⌜ r ≡ padding-at group b ⌝ }
+{
+    group > 0 && b == 0
 }

@@ -30,8 +30,9 @@ impl NumberFault {
         ensures { λ r. ⌜ r ≡ number-fault-place self ⌝ }
     {
         match self {
-            NumberFault::Cut(place) | NumberFault::Padded(place) | NumberFault::Oversize(place) =>
-                place,
+            NumberFault::Cut(place) => place,
+            NumberFault::Padded(place) => place,
+            NumberFault::Oversize(place) => place,
         }
     }
 }

@@ -1,6 +1,7 @@
 // A pen that puts bytes and numbers into a slice, one behind the other.
 ghost use mathlib.Core.List.{[], _∷_};
 ghost use mathlib.Core.Path.{_≡_};
+ghost use Prim.Native.Nat.{_+_, _%_};
 ghost use denote.Ref.{name};
 ghost use Rattle.number.specs.Numbers.{bytes};
 ghost use Rattle.number.specs.Puts.{Puts, pen-of};
@@ -39,7 +40,7 @@ impl Pen<'_> {
         self.place
     }
 
-    // Puts one byte; refuses at the end of the slice.
+    // Puts one byte; refuses at the end of the slice, and then changes nothing.
     fn put(&mut self, b: u8) -> Result<(), Short>
         ensures { λ r. ⌜ Puts r (pen-of (now (self .entry))) (pen-of (now (self .exit))) (b ∷ []) ⌝ }
     {
@@ -53,15 +54,22 @@ impl Pen<'_> {
         Ok(())
     }
 
-    /// Puts the groups of `n`; refuses where they do not all fit, and then a dry pen has still changed nothing.
+    /// Puts the bytes of `n`; refuses where the slice is too short for them, and then those that have room are put.
     pub fn put_number(&mut self, n: u32) -> Result<(), Short>
         ensures { λ r. ⌜ Puts r (pen-of (now (self .entry))) (pen-of (now (self .exit))) (bytes n) ⌝ }
     {
         let mut rest = n;
         while rest >= GROUP_VALUES {
-            self.put((rest % GROUP_VALUES) as u8 + MORE)?;
+            self.put(lowest_group(rest))?;
             rest /= GROUP_VALUES;
         }
         self.put(rest as u8)
     }
+}
+
+// The byte of the lowest group of `n`, with more groups behind it.
+fn lowest_group(n: u32) -> u8
+    ensures { λ r. ⌜ r ≡ n % 128 + 128 ⌝ }
+{
+    (n % GROUP_VALUES) as u8 + MORE
 }

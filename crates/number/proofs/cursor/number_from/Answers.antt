@@ -1,20 +1,12 @@
-use Prim.Native.Nat.{ℕ, _+_, _*_, _-_, _^_, _<_, _≤_}
-use mathlib.Core.List.{List, [], _∷_}
-use mathlib.Core.Path.{_≡_, refl, sym, ap, _∙_}
-use mathlib.Core.Bool.{true, false, cond, _&&_}
-use lib.Dec.{ltb, eqb, leb}
-use lib.ListN.{length, drop, getD}
-use lib.Pow.{pow-mono}
+-- Each way out of the loop answers as one more group does.
+use Prim.Native.Nat.{_+_, _*_, _-_, _^_, _<_, _≤_}
+use mathlib.Core.Path.{refl, sym, ap, _∙_}
 use native.Mathlib.Omega.{arith}
 use native.Mathlib.Nat.{pow-suc}
 use native.Mathlib.Numerals.{add-one}
-use borrow.Author.Needs.{needs}
-use Rattle.std.proofs.shelf.Lists.{at-drop-more, at-drop-all}
-use Rattle.std.proofs.shelf.Bits.{mul-le}
+use Rattle.std.proofs.shelf.Lists.{at-drop-all}
 use Rattle.std.proofs.shelf.Ways.{tells}
-use Rattle.std.specs.declared.result.Result.the-variants.{Ok, Err}
 use Rattle.number.specs.Numbers.{groups, numberAt}
-use Rattle.number.specs.declared.fault.NumberFault.the-variants.{Cut, Padded, Oversize}
 use Rattle.number.proofs.Groups.{turn, scale-part, last-fits, more-fits}
 use Rattle.number.proofs.cursor.number_from.Needs as need
 
@@ -23,13 +15,13 @@ returns-then-at-file c =
     sym (at-drop-all (groups (c .args .start) (c .loop-group .group) (c .loop-group .value) (c .loop-group .scale) (c .loop-group .at)) (c .args .file .now) (c .loop-group .at) (omega arith))
     ∙ c .loop-group .inv .0
 
-pub returns-then-b-ge-TOP-GROUP-VALUES : need.returns-then-b-ge-TOP-GROUP-VALUES
-returns-then-b-ge-TOP-GROUP-VALUES c =
+pub returns-then-oversized : need.returns-then-oversized
+returns-then-oversized c =
     let e = turn (c .args .start) (c .loop-group .group) (c .loop-group .value) (c .loop-group .scale) (c .loop-group .at) (c .args .file .now) (omega arith) in
     grind (arith, tells)
 
-pub returns-then-b-eq0 : need.returns-then-b-eq0
-returns-then-b-eq0 c =
+pub returns-then-padding : need.returns-then-padding
+returns-then-padding c =
     let e = turn (c .args .start) (c .loop-group .group) (c .loop-group .value) (c .loop-group .scale) (c .loop-group .at) (c .args .file .now) (omega arith) in
     grind (arith, tells)
 

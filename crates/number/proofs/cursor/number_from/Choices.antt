@@ -1,6 +1,7 @@
-use Prim.Native.Nat.{_-_, _+_, _^_, _<_, _≤_}
+-- What is still to be read gives the answer.
+use Prim.Native.Nat.{_-_, _^_, _<_, _≤_}
 use mathlib.Core.Path.{_≡_}
-use lib.ListN.{drop, length}
+use lib.ListN.{drop}
 use Rattle.number.specs.Numbers.{groups, numberAt}
 use Rattle.number.proofs.cursor.number_from.Given as given
 

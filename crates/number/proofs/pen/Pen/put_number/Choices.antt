@@ -1,3 +1,4 @@
+-- Some bytes are put, and those of the rest are left.
 use Prim.Native.Nat.{ℕ, _+_, _*_, _^_, _<_}
 use mathlib.Core.List.{List, _++_}
 use mathlib.Core.Path.{_≡_}
