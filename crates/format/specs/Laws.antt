@@ -1,10 +1,10 @@
 -- What files are, with no word of how they are read.
-use Prim.Native.Nat.{ℕ, _<_}
+use Prim.Native.Nat.{ℕ}
 use mathlib.Core.Bool.{true}
 use mathlib.Core.List.{List}
 use mathlib.Core.Path.{_≡_}
-use Rattle.std.specs.shelf.Lists.{All}
 use Rattle.std.specs.declared.result.Result.the-variants.{Ok}
+use Rattle.number.specs.Laws.{All-bytes}
 use Rattle.jinja.specs.Program.{Program}
 use Rattle.format.specs.Encode.{encode}
 use Rattle.format.specs.Rules.{keeps}
@@ -16,4 +16,20 @@ Written-is-read = (P : Program) → keeps P ≡ true → parse (encode P) ≡ Ok
 
 -- a file that is read as a program is the program's encoding, and the program keeps the rules
 abbrev pub Read-was-written : Type 0
-Read-was-written = (file : List ℕ) (P : Program) → All (λ b. b < 256) file → parse file ≡ Ok P → (file ≡ encode P) × (keeps P ≡ true)
+Read-was-written = (file : List ℕ) (P : Program) → All-bytes file → parse file ≡ Ok P → (file ≡ encode P) × (keeps P ≡ true)
+
+-- the encoding of a program that keeps the rules is a file of bytes
+abbrev pub Written-in-bytes : Type 0
+Written-in-bytes = (P : Program) → keeps P ≡ true → All-bytes (encode P)
+
+-- a file is read as a program exactly where it is the encoding of that program, which keeps the rules
+pub record Read-exactly (file : List ℕ) (P : Program) : Type 0 where
+  pub only : parse file ≡ Ok P → (file ≡ encode P) × (keeps P ≡ true)
+  pub always : (file ≡ encode P) × (keeps P ≡ true) → parse file ≡ Ok P
+
+abbrev pub Files-are-encodings : Type 0
+Files-are-encodings = (file : List ℕ) (P : Program) → All-bytes file → Read-exactly file P
+
+-- no two programs that keep the rules have one encoding
+abbrev pub One-program : Type 0
+One-program = (P Q : Program) → keeps P ≡ true → keeps Q ≡ true → encode P ≡ encode Q → P ≡ Q

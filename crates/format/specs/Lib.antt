@@ -6,3 +6,4 @@ pub mod Rules
 pub mod Reading
 pub mod Parse
 pub mod Laws
+pub mod Examples

@@ -60,7 +60,7 @@ impl TableFault {
 pub impl From<NumberFault> for TableFault as TableFromNumber {
     ghost converts = { λ e r. r ≡ of-number e };
 
-    fn from(e: NumberFault) -> TableFault {
-        TableFault::Number(e)
+    fn from(fault: NumberFault) -> TableFault {
+        TableFault::Number(fault)
     }
 }

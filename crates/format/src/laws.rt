@@ -1,0 +1,22 @@
+// The laws of files, each carried by the contract of a function.
+ghost use Rattle.format.specs.Laws.{Written-is-read, Read-was-written, Written-in-bytes, Files-are-encodings, One-program};
+ghost use Rattle.format.specs.Examples.{Examples-stand};
+
+/// Files stand: what was written is read, what is read was written, and a program that keeps the rules has an encoding
+/// of its own, in bytes.
+pub fn files_stand() -> u8
+    ensures written { λ _. ⌜ Written-is-read ⌝ }
+    ensures read { λ _. ⌜ Read-was-written ⌝ }
+    ensures bytes { λ _. ⌜ Written-in-bytes ⌝ }
+    ensures exactly { λ _. ⌜ Files-are-encodings ⌝ }
+    ensures one { λ _. ⌜ One-program ⌝ }
+{
+    0
+}
+
+/// The worked files say what they are said to say: one for each fault, and two that are read.
+pub fn examples_stand() -> u8
+    ensures examples { λ _. ⌜ Examples-stand ⌝ }
+{
+    0
+}
