@@ -1,0 +1,6 @@
+-- Lemmas by topic.
+pub mod Objects
+pub mod SlotObjects
+pub mod Strips
+pub mod CellObjects
+pub mod KeptTotals

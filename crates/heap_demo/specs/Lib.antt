@@ -1,0 +1,2 @@
+-- What filling a heap leaves.
+pub mod Filled
