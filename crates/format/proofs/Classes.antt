@@ -1,25 +1,23 @@
 -- Fields and classes in a file.
-use Prim.Native.Nat.{ℕ, _+_, _^_, _<_, _≤_}
-use mathlib.Core.Bool.{Bool, true, false}
-use mathlib.Core.List.{List, [], _∷_, _++_}
-use mathlib.Core.Path.{_≡_, refl, sym, ap, _∙_}
-use lib.Dec.{leb}
+use Prim.Native.Nat.{ℕ, _+_, _<_, _≤_}
+use mathlib.Core.Bool.{true}
+use mathlib.Core.List.{List}
+use mathlib.Core.Path.{_≡_, refl}
 use lib.ListN.{length}
 use native.Mathlib.Omega.{arith}
-use Rattle.std.specs.shelf.Lists.{All}
 use Rattle.std.proofs.shelf.Tests.{leb-true, ltb-true}
 use Rattle.std.specs.declared.result.Result.the-variants.{Ok}
 use Rattle.number.specs.Laws.{All-bytes}
 use Rattle.number.specs.Numbers.{number-limit, bytes}
 use Rattle.jinja.specs.declared.program.Field.{Field}
-use Rattle.jinja.specs.Program.{MethodDecl, ClassDecl, Program}
+use Rattle.jinja.specs.Program.{ClassDecl, Program}
 use Rattle.jinja.specs.Classes.{is-class}
 use Rattle.format.specs.Encode.{type-bytes, field-bytes, method-bytes, class-bytes, counted-bytes}
-use Rattle.format.specs.Rules.{each-after, field-name, field-keeps, method-keeps, class-keeps, fields-keep, methods-keep}
-use Rattle.format.specs.Reading.{then, any-at}
+use Rattle.format.specs.Rules.{field-name, field-keeps, method-keeps, class-keeps, fields-keep, methods-keep}
+use Rattle.format.specs.Reading.{any-at}
 use Rattle.format.specs.Parse.{type-at, name-at, field-at, superclass-at, fields-at, methods-at, method-at, class-at}
-use Rattle.format.proofs.Steps.{Stands, both, split, then-ok, then-by, then-from, checked-ok, checked-from}
-use Rattle.format.proofs.Numbers.{given, any-reads, any-wrote, name-reads, name-wrote, type-reads, type-wrote}
+use Rattle.format.proofs.Steps.{Stands, given, both, split, then-ok, then-by, then-from, checked-ok, checked-from}
+use Rattle.format.proofs.Numbers.{any-reads, any-wrote, name-reads, name-wrote, type-reads, type-wrote}
 use Rattle.format.proofs.Lists.{list-reads, list-wrote}
 use Rattle.format.proofs.Kept.{field-kept, kept-field, class-kept, kept-class}
 use Rattle.format.proofs.Methods.{method-reads, method-wrote}

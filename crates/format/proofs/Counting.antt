@@ -26,8 +26,15 @@ module _ {A : Type 0} (item : List A → ℕ → Read A) where
   pub counted-all : (n i : ℕ) (acc : List A) (p : ℕ) → n ≤ i → counted item (n - i) acc p ≡ Ok (acc, p)
   counted-all n i acc p h = let e : n - i ≡ zero = omega arith in rw e refl
 
+-- an answer is one of the two
+pub ok-not-err : {A E : Type 0} {x : A} {f : E} → _≡_ {A = Result A E} (Ok x) (Err f) → ⊥
+ok-not-err e = let z : _≡_ {A = ℕ} 0 1 = cc in omega arith
+
 pub ok-same : {A E : Type 0} (x y : A) → _≡_ {A = Result A E} (Ok x) (Ok y) → x ≡ y
 ok-same x y e = cc
+
+pub err-same : {A E : Type 0} {f g : E} → _≡_ {A = Result A E} (Err f) (Err g) → f ≡ g
+err-same e = cc
 
 -- items behind others
 abbrev pub behind-all : {A : Type 0} → List A → Read (List A) → Read (List A)
@@ -45,10 +52,10 @@ module _ {A : Type 0} (item : ℕ → Read A) where
 
   split-ok : (front all : List A) (q : ℕ) (x : Read (List A)) → behind-all front x ≡ Ok (all, q) → (code : List A) × (all ≡ front ++ code) × (x ≡ Ok (code, q))
   split-ok front all q (Ok r) e = let s = ok-same _ _ e in (r .0, sym (ap (λ z. z .0) s), ap (λ z. Ok (r .0, z)) (ap (λ z. z .1) s))
-  split-ok front all q (Err f) e = absurd (let z : _≡_ {A = ℕ} 0 1 = cc in omega arith)
+  split-ok front all q (Err f) e = absurd (ok-not-err (sym e))
 
   split-err : (front : List A) (x : Read (List A)) (f : TableFault) → behind-all front x ≡ Err f → x ≡ Err f
-  split-err front (Ok r) f e = absurd (let z : _≡_ {A = ℕ} 0 1 = cc in omega arith)
+  split-err front (Ok r) f e = absurd (ok-not-err e)
   split-err front (Err g) f e = cc
 
   pub behind-ok : (n : ℕ) (front all : List A) (p q : ℕ) → counted (λ _. item) n front p ≡ Ok (all, q) → (code : List A) × (all ≡ front ++ code) × (counted (λ _. item) n [] p ≡ Ok (code, q))
@@ -63,16 +70,16 @@ module _ {A : Type 0} (item : List A → ℕ → Read A) where
   length-counted (suc n) acc all p q e =
       let Goal : Read A → Type 0 = λ x. then x (λ a q. counted item n (acc ++ a ∷ []) q) ≡ Ok (all, q) → length all ≡ length acc + suc n in
       let go : (x : Read A) → Goal x =
-      λ x. elim x as Goal [ Ok r ↦ (λ h. length-counted n (acc ++ r .0 ∷ []) all (r .1) q h ∙ rw length-push (omega arith)) | Err f ↦ (λ h. absurd (let z : _≡_ {A = ℕ} 0 1 = cc in omega arith)) ] in
+      λ x. elim x as Goal [ Ok r ↦ (λ h. length-counted n (acc ++ r .0 ∷ []) all (r .1) q h ∙ rw length-push (omega arith)) | Err f ↦ (λ h. absurd (ok-not-err (sym h))) ] in
       go (item acc p) e
 
 module _ {A : Type 0} (item : List A → ℕ → Read A) where
   step-ok : (n : ℕ) (acc acc′ : List A) (q : ℕ) (x : Read A) → then x (λ a r. Ok (acc ++ a ∷ [], r)) ≡ Ok (acc′, q) → then x (λ a r. counted item n (acc ++ a ∷ []) r) ≡ counted item n acc′ q
   step-ok n acc acc′ q (Ok r) e = let s = ok-same _ _ e in ap (λ (z : List A × ℕ). counted item n (z .0) (z .1)) s
-  step-ok n acc acc′ q (Err f) e = absurd (let z : _≡_ {A = ℕ} 0 1 = cc in omega arith)
+  step-ok n acc acc′ q (Err f) e = absurd (ok-not-err (sym e))
 
   step-err : (n : ℕ) (acc : List A) (f : TableFault) (x : Read A) → _≡_ {A = Read (List A)} (then x (λ a r. Ok (acc ++ a ∷ [], r))) (Err f) → then x (λ a r. counted item n (acc ++ a ∷ []) r) ≡ Err f
-  step-err n acc f (Ok r) e = absurd (let z : _≡_ {A = ℕ} 0 1 = cc in omega arith)
+  step-err n acc f (Ok r) e = absurd (ok-not-err e)
   step-err n acc f (Err g) e = cc
 
   -- a turn of a loop that adds an item to those in hand

@@ -1,16 +1,14 @@
 -- Literals and instructions in a file: each shape of operands once, over the constructor.
-use Prim.Native.Nat.{ℕ, zero, suc, _+_, _^_, _<_}
+use Prim.Native.Nat.{ℕ, _+_, _<_}
 use mathlib.Core.Bool.{Bool, true, false, cond, _&&_}
-use mathlib.Core.List.{List, [], _∷_, _++_}
-use mathlib.Core.Logic.{_⊎_, inl, inr}
-use mathlib.Core.Path.{_≡_, refl, sym, ap, subst, _∙_}
-use lib.Dec.{ltb, leb, eqb}
+use mathlib.Core.List.{List, _++_}
+use mathlib.Core.Logic.{inl, inr}
+use mathlib.Core.Path.{_≡_, refl, sym, ap}
+use lib.Dec.{leb, eqb}
 use lib.IntN.{ℤ}
 use native.Mathlib.Omega.{arith}
-use Rattle.std.specs.shelf.Lists.{All}
 use Rattle.std.proofs.shelf.Tests.{cases-eq, eq-eqb, ne-eqb, lt-ltb, ltb-true, and-parts, and-from}
-use Rattle.std.specs.declared.result.Result.{Result}
-use Rattle.std.specs.declared.result.Result.the-variants.{Ok, Err}
+use Rattle.std.specs.declared.result.Result.the-variants.{Ok}
 use Rattle.number.specs.Laws.{All-bytes}
 use Rattle.number.specs.Numbers.{number-limit, bytes}
 use Rattle.number.specs.Signed.{unsigned, signed}
@@ -19,14 +17,14 @@ use Rattle.jinja.specs.declared.instr.Literal.{Literal}
 use Rattle.jinja.specs.declared.instr.Literal.the-variants.{Unit, Null, Boolean, Integer}
 use Rattle.jinja.specs.declared.instr.Instr.{Instr}
 use Rattle.jinja.specs.declared.instr.Instr.the-variants.{Load, Store, Push, Pop, New, Getfield, Putfield, Checkcast, Invoke, Return, IAdd, CmpEq, IfFalse, Goto, Throw}
-use Rattle.format.specs.declared.fault.TableFault.{TableFault}
 use Rattle.format.specs.Limits.{max-name, max-operand, max-offset}
 use Rattle.format.specs.Encode.{literal-bytes, instr-bytes}
 use Rattle.format.specs.Rules.{literal-keeps, instr-keeps}
 use Rattle.format.specs.Reading.{Read, then, any-at, at-most}
 use Rattle.format.specs.Parse.{boolean-at, literal-of, literal-at, one, named, jump, operands-of, instr-at}
-use Rattle.format.proofs.Steps.{Stands, both, split, then-ok, then-from}
-use Rattle.format.proofs.Numbers.{given, any-reads, at-most-reads, any-wrote, at-most-wrote}
+use Rattle.format.proofs.Counting.{ok-not-err}
+use Rattle.format.proofs.Steps.{Stands, given, both, split, then-ok, then-by, then-from}
+use Rattle.format.proofs.Numbers.{any-reads, at-most-reads, any-wrote, at-most-wrote}
 
 module _ (file : List ℕ) where
   -- a kind in front of the rest
@@ -83,11 +81,8 @@ module _ (file : List ℕ) where
   instr-reads Throw p q h s = lone-reads (operands-of file p) Throw 14 p q (omega arith) refl s
 
 -- the kind is n, or another
-either : {A : Type 0} (k n : ℕ) (x y z : Read A) → cond (eqb k n) x y ≡ z → ((k ≡ n) × (x ≡ z)) ⊎ (y ≡ z)
-either k n x y z e = elim (cases-eq k n) [ inl h ↦ inl (h, rw (eq-eqb k n h) at e) | inr h ↦ inr (rw (ne-eqb k n h) at e) ]
-
-refused : {A : Type 0} (f : TableFault) (a : A) (q : ℕ) → _≡_ {A = Read A} (Err f) (Ok (a, q)) → ⊥
-refused f a q e = let z : _≡_ {A = ℕ} 0 1 = cc in omega arith
+choose : {A G : Type 0} (k n : ℕ) {x y z : Read A} → cond (eqb k n) x y ≡ z → (k ≡ n → x ≡ z → G) → (y ≡ z → G) → G
+choose k n e here other = elim (cases-eq k n) [ inl h ↦ here h (rw (eq-eqb k n h) at e) | inr h ↦ other (rw (ne-eqb k n h) at e) ]
 
 module _ (file : List ℕ) (small : All-bytes file) where
   abbrev Literal-wrote : ℕ → Literal → ℕ → Type 0
@@ -101,11 +96,10 @@ module _ (file : List ℕ) (small : All-bytes file) where
       let w = then-ok (any-at file r) _ b q h in
       let t = any-wrote file small r (w .1) (w .0) (w .2) .1 in
       let at : (n : ℕ) → w .0 ≡ n → Stands file p (w .1) (bytes 2 ++ bytes n) = λ n e. both file p r (w .1) (bytes 2) (bytes n) s (rw e at t) in
-      elim (either (w .0) 0 _ _ _ (w .3)) [
-        | inl v ↦ given (λ b q. Literal-wrote p (Boolean b) q) false b (w .1) q (v .1) (refl, at 0 (v .0))
-        | inr h₁ ↦
-            elim (either (w .0) 1 _ _ _ h₁) [ inl v ↦ given (λ b q. Literal-wrote p (Boolean b) q) true b (w .1) q (v .1) (refl, at 1 (v .0)) | inr h₂ ↦ absurd (refused _ b q h₂) ]
-      ]
+      let Boolean-wrote : Bool → ℕ → Type 0 = λ b q. Literal-wrote p (Boolean b) q in
+      choose (w .0) 0 (w .3) (λ k e. given Boolean-wrote false b (w .1) q e (refl, at 0 k)) (λ h.
+      choose (w .0) 1 h (λ k e. given Boolean-wrote true b (w .1) q e (refl, at 1 k)) (λ h.
+      absurd (ok-not-err (sym h))))
 
   integer-wrote : (p r q n : ℕ) → Stands file p r (bytes 3) → any-at file r ≡ Ok (n, q) → Literal-wrote p (Integer (signed n)) q
   integer-wrote p r q n s h =
@@ -116,24 +110,14 @@ module _ (file : List ℕ) (small : All-bytes file) where
   literal-wrote : (p q : ℕ) (v : Literal) → literal-at file p ≡ Ok (v, q) → Literal-wrote p v q
   literal-wrote p q v h =
       let w = then-ok (any-at file p) (literal-of file p) v q h in
-      let s = any-wrote file small p (w .1) (w .0) (w .2) .1 in
-      let at : (n : ℕ) → w .0 ≡ n → Stands file p (w .1) (bytes n) = λ n e. rw e at s in
-      elim (either (w .0) 0 _ _ _ (w .3)) [
-        | inl k ↦ given (Literal-wrote p) Unit v (w .1) q (k .1) (refl, at 0 (k .0))
-        | inr h₁ ↦
-            elim (either (w .0) 1 _ _ _ h₁) [
-              | inl k ↦ given (Literal-wrote p) Null v (w .1) q (k .1) (refl, at 1 (k .0))
-              | inr h₂ ↦
-                  elim (either (w .0) 2 _ _ _ h₂) [
-                    | inl k ↦ (let u = then-ok (boolean-at file (w .1)) _ v q (k .1) in given (Literal-wrote p) (Boolean (u .0)) v (u .1) q (u .3) (boolean-wrote p (w .1) (u .1) (u .0) (at 2 (k .0)) (u .2)))
-                    | inr h₃ ↦
-                        elim (either (w .0) 3 _ _ _ h₃) [
-                          | inl k ↦ (let u = then-ok (any-at file (w .1)) _ v q (k .1) in given (Literal-wrote p) (Integer (signed (u .0))) v (u .1) q (u .3) (integer-wrote p (w .1) (u .1) (u .0) (at 3 (k .0)) (u .2)))
-                          | inr h₄ ↦ absurd (refused _ v q h₄)
-                        ]
-                  ]
-            ]
-      ]
+      let r = w .1 in
+      let s = any-wrote file small p r (w .0) (w .2) .1 in
+      let at : (n : ℕ) → w .0 ≡ n → Stands file p r (bytes n) = λ n e. rw e at s in
+      choose (w .0) 0 (w .3) (λ k e. given (Literal-wrote p) Unit v r q e (refl, at 0 k)) (λ h.
+      choose (w .0) 1 h (λ k e. given (Literal-wrote p) Null v r q e (refl, at 1 k)) (λ h.
+      choose (w .0) 2 h (λ k e. then-by (boolean-at file r) _ v q e (λ b t f g. given (Literal-wrote p) (Boolean b) v t q g (boolean-wrote p r t b (at 2 k) f))) (λ h.
+      choose (w .0) 3 h (λ k e. then-by (any-at file r) _ v q e (λ n t f g. given (Literal-wrote p) (Integer (signed n)) v t q g (integer-wrote p r t n (at 3 k) f))) (λ h.
+      absurd (ok-not-err (sym h))))))
 
   -- what was read behind an instruction's kind at p
   one-wrote : (make : ℕ → Instr) (p r q : ℕ) (i : Instr) → ((n t : ℕ) → leb n max-operand ≡ true → Stands file r t (bytes n) → Wrote p (make n) t) → one file make r ≡ Ok (i, q) → Wrote p i q
@@ -164,60 +148,19 @@ module _ (file : List ℕ) (small : All-bytes file) where
       let s = any-wrote file small p r (w .0) (w .2) .1 in
       let at : (n : ℕ) → w .0 ≡ n → Stands file p r (bytes n) = λ n e. rw e at s in
       let lead : (n t : ℕ) (e : List ℕ) → w .0 ≡ n → Stands file r t e → Stands file p t (bytes n ++ e) = λ n t e k. both file p r t (bytes n) e (at n k) in
-      elim (either (w .0) 0 _ _ _ (w .3)) [
-        | inl k ↦ one-wrote Load p r q i (λ n t l u. (l, lead 0 t _ (k .0) u)) (k .1)
-        | inr h₁ ↦
-            elim (either (w .0) 1 _ _ _ h₁) [
-              | inl k ↦ one-wrote Store p r q i (λ n t l u. (l, lead 1 t _ (k .0) u)) (k .1)
-              | inr h₂ ↦
-                  elim (either (w .0) 2 _ _ _ h₂) [
-                    | inl k ↦ (let u = then-ok (literal-at file r) _ i q (k .1) in let v = literal-wrote r (u .1) (u .0) (u .2) in given (Wrote p) (Push (u .0)) i (u .1) q (u .3) (v .0, lead 2 (u .1) _ (k .0) (v .1)))
-                    | inr h₃ ↦
-                        elim (either (w .0) 3 _ _ _ h₃) [
-                          | inl k ↦ given (Wrote p) Pop i r q (k .1) (refl, at 3 (k .0))
-                          | inr h₄ ↦
-                              elim (either (w .0) 4 _ _ _ h₄) [
-                                | inl k ↦ one-wrote New p r q i (λ n t l u. (l, lead 4 t _ (k .0) u)) (k .1)
-                                | inr h₅ ↦
-                                    elim (either (w .0) 5 _ _ _ h₅) [
-                                      | inl k ↦ named-wrote Getfield p r q i (λ f c t l u. (l, lead 5 t _ (k .0) u)) (k .1)
-                                      | inr h₆ ↦
-                                          elim (either (w .0) 6 _ _ _ h₆) [
-                                            | inl k ↦ named-wrote Putfield p r q i (λ f c t l u. (l, lead 6 t _ (k .0) u)) (k .1)
-                                            | inr h₇ ↦
-                                                elim (either (w .0) 7 _ _ _ h₇) [
-                                                  | inl k ↦ one-wrote Checkcast p r q i (λ n t l u. (l, lead 7 t _ (k .0) u)) (k .1)
-                                                  | inr h₈ ↦
-                                                      elim (either (w .0) 8 _ _ _ h₈) [
-                                                        | inl k ↦ named-wrote Invoke p r q i (λ f c t l u. (l, lead 8 t _ (k .0) u)) (k .1)
-                                                        | inr h₉ ↦
-                                                            elim (either (w .0) 9 _ _ _ h₉) [
-                                                              | inl k ↦ given (Wrote p) Return i r q (k .1) (refl, at 9 (k .0))
-                                                              | inr h₁₀ ↦
-                                                                  elim (either (w .0) 10 _ _ _ h₁₀) [
-                                                                    | inl k ↦ given (Wrote p) IAdd i r q (k .1) (refl, at 10 (k .0))
-                                                                    | inr h₁₁ ↦
-                                                                        elim (either (w .0) 11 _ _ _ h₁₁) [
-                                                                          | inl k ↦ given (Wrote p) CmpEq i r q (k .1) (refl, at 11 (k .0))
-                                                                          | inr h₁₂ ↦
-                                                                              elim (either (w .0) 12 _ _ _ h₁₂) [
-                                                                                | inl k ↦ jump-wrote IfFalse p r q i (λ z t l u. (l, lead 12 t _ (k .0) u)) (k .1)
-                                                                                | inr h₁₃ ↦
-                                                                                    elim (either (w .0) 13 _ _ _ h₁₃) [
-                                                                                      | inl k ↦ jump-wrote Goto p r q i (λ z t l u. (l, lead 13 t _ (k .0) u)) (k .1)
-                                                                                      | inr h₁₄ ↦
-                                                                                          elim (either (w .0) 14 _ _ _ h₁₄) [ inl k ↦ given (Wrote p) Throw i r q (k .1) (refl, at 14 (k .0)) | inr h₁₅ ↦ absurd (refused _ i q h₁₅) ]
-                                                                                    ]
-                                                                              ]
-                                                                        ]
-                                                                  ]
-                                                            ]
-                                                      ]
-                                                ]
-                                          ]
-                                    ]
-                              ]
-                        ]
-                  ]
-            ]
-      ]
+      choose (w .0) 0 (w .3) (λ k. one-wrote Load p r q i (λ n t l u. (l, lead 0 t (bytes n) k u))) (λ h.
+      choose (w .0) 1 h (λ k. one-wrote Store p r q i (λ n t l u. (l, lead 1 t (bytes n) k u))) (λ h.
+      choose (w .0) 2 h (λ k e. then-by (literal-at file r) _ i q e (λ v t f g. (let u = literal-wrote r t v f in given (Wrote p) (Push v) i t q g (u .0, lead 2 t (literal-bytes v) k (u .1))))) (λ h.
+      choose (w .0) 3 h (λ k e. given (Wrote p) Pop i r q e (refl, at 3 k)) (λ h.
+      choose (w .0) 4 h (λ k. one-wrote New p r q i (λ n t l u. (l, lead 4 t (bytes n) k u))) (λ h.
+      choose (w .0) 5 h (λ k. named-wrote Getfield p r q i (λ m n t l u. (l, lead 5 t (bytes m ++ bytes n) k u))) (λ h.
+      choose (w .0) 6 h (λ k. named-wrote Putfield p r q i (λ m n t l u. (l, lead 6 t (bytes m ++ bytes n) k u))) (λ h.
+      choose (w .0) 7 h (λ k. one-wrote Checkcast p r q i (λ n t l u. (l, lead 7 t (bytes n) k u))) (λ h.
+      choose (w .0) 8 h (λ k. named-wrote Invoke p r q i (λ m n t l u. (l, lead 8 t (bytes m ++ bytes n) k u))) (λ h.
+      choose (w .0) 9 h (λ k e. given (Wrote p) Return i r q e (refl, at 9 k)) (λ h.
+      choose (w .0) 10 h (λ k e. given (Wrote p) IAdd i r q e (refl, at 10 k)) (λ h.
+      choose (w .0) 11 h (λ k e. given (Wrote p) CmpEq i r q e (refl, at 11 k)) (λ h.
+      choose (w .0) 12 h (λ k. jump-wrote IfFalse p r q i (λ z t l u. (l, lead 12 t (bytes (unsigned z)) k u))) (λ h.
+      choose (w .0) 13 h (λ k. jump-wrote Goto p r q i (λ z t l u. (l, lead 13 t (bytes (unsigned z)) k u))) (λ h.
+      choose (w .0) 14 h (λ k e. given (Wrote p) Throw i r q e (refl, at 14 k)) (λ h.
+      absurd (ok-not-err (sym h)))))))))))))))))

@@ -1,13 +1,15 @@
 -- The rules that handlers, fields, methods and classes keep, each under a name.
 use Prim.Native.Nat.{ℕ, zero, suc, _+_, _≤_}
-use mathlib.Core.Bool.{Bool, true, false, _&&_}
+use mathlib.Core.Bool.{Bool, true, _&&_}
 use mathlib.Core.List.{List, [], _∷_, _++_}
-use mathlib.Core.Path.{_≡_, refl}
+use mathlib.Core.Path.{_≡_, refl, sym, ap, subst, _∙_}
 use lib.Dec.{leb}
-use lib.ListN.{length, getD}
+use lib.ListN.{length, take, getD}
 use native.Mathlib.Omega.{arith}
+use Rattle.std.specs.Finite.{nth}
+use Rattle.std.specs.declared.option.Option.the-variants.{Some}
 use Rattle.std.specs.shelf.Lists.{All}
-use Rattle.std.proofs.shelf.Lists.{length-push}
+use Rattle.std.proofs.shelf.Lists.{append-assoc, append-nil, length-push}
 use Rattle.std.proofs.shelf.Tests.{leb-true, le-leb, and-parts, and-from}
 use Rattle.jinja.specs.declared.program.Field.{Field}
 use Rattle.jinja.specs.declared.program.Handler.{Handler}
@@ -15,7 +17,8 @@ use Rattle.jinja.specs.Program.{MethodDecl, ClassDecl, Program}
 use Rattle.jinja.specs.Types.{type-exists}
 use Rattle.jinja.specs.Classes.{is-class}
 use Rattle.format.specs.Limits.{max-classes, max-params, max-height, max-code, max-instrs, max-name, max-operand, max-handler-number}
-use Rattle.format.specs.Rules.{all-of, each, each-after, unused, field-name, method-name, instr-keeps, handler-keeps, field-keeps, method-keeps, class-keeps, override-keeps, registers-keep, code-keeps, handlers-keep, fields-keep, methods-keep, count-code, count-handlers, program-code, program-handlers}
+use Rattle.format.specs.Rules.{all-of, each, each-after, unused, field-name, method-name, instr-keeps, handler-keeps, field-keeps, method-keeps, class-keeps, keeps, override-keeps, registers-keep, code-keeps, handlers-keep, fields-keep, methods-keep, count-code, count-handlers, program-code, program-handlers}
+use Rattle.format.proofs.Found.{conflict, some-inj}
 
 -- tests of a list, each alone and all together
 test-at : (bs : List Bool) → all-of bs ≡ true → (i : ℕ) → getD bs i true ≡ true
@@ -103,3 +106,31 @@ few-before test [] before l h = refl
 few-before test (c ∷ cs) before l h =
     let k = and-parts (test before c) _ h in
     and-from _ _ (and-from _ _ (le-leb _ _ (omega arith)) (k .0)) (few-before test cs (before ++ c ∷ []) (omega (arith, length-push before c)) (k .1))
+
+-- the item at place i passes in the light of those before it
+each-after-at : {A : Type 0} (test : List A → A → Bool) (xs before : List A) (i : ℕ) {x : A} → each-after test before xs ≡ true → nth xs i ≡ Some x → test (before ++ take i xs) x ≡ true
+each-after-at test [] before i h e = absurd (conflict e)
+each-after-at test (y ∷ ys) before zero {x} h e = subst (λ z. test z x ≡ true) (sym (append-nil before)) (ap (test before) (sym (some-inj e)) ∙ and-parts (test before y) _ h .0)
+each-after-at test (y ∷ ys) before (suc i) {x} h e =
+    subst (λ z. test z x ≡ true) (append-assoc before (y ∷ []) (take i ys)) (each-after-at test ys (before ++ y ∷ []) i (and-parts (test before y) _ h .1) e)
+
+pub each-at : {A : Type 0} (test : A → Bool) (xs : List A) (i : ℕ) {x : A} → each test xs ≡ true → nth xs i ≡ Some x → test x ≡ true
+each-at test [] i h e = absurd (conflict e)
+each-at test (y ∷ ys) zero h e = ap test (sym (some-inj e)) ∙ and-parts (test y) _ h .0
+each-at test (y ∷ ys) (suc i) h e = each-at test ys i (and-parts (test y) _ h .1) e
+
+-- what a program that keeps the rules keeps of each of its parts
+module _ (P : Program) (kept : keeps P ≡ true) where
+  pub kept-few : length P ≤ max-classes
+  unfolding keeps
+  kept-few = leb-true _ _ (and-parts (leb (length P) max-classes) _ kept .0)
+
+  pub kept-class-at : (i : ℕ) {c : ClassDecl} → nth P i ≡ Some c → Class-kept (4 + length P) (take i P) c
+  unfolding keeps
+  kept-class-at i {c} e = class-kept _ _ c (each-after-at (class-keeps (4 + length P)) P [] i (and-parts (leb (length P) max-classes) _ kept .1) e)
+
+  pub kept-field-at : (i j : ℕ) {c : ClassDecl} {f : Field} → nth P i ≡ Some c → nth (c .fields) j ≡ Some f → Field-kept (4 + length P) (take j (c .fields)) f
+  kept-field-at i j {c} {f} e q = field-kept _ _ f (each-after-at (field-keeps (4 + length P)) (c .fields) [] j (kept-class-at i e .fields) q)
+
+  pub kept-method-at : (i j : ℕ) {c : ClassDecl} {m : MethodDecl} → nth P i ≡ Some c → nth (c .methods) j ≡ Some m → Method-kept (4 + length P) (take i P) (c .superclass) (take j (c .methods)) m
+  kept-method-at i j {c} {m} e q = method-kept _ _ _ _ m (each-after-at (method-keeps (4 + length P) (take i P) (c .superclass)) (c .methods) [] j (kept-class-at i e .methods) q)

@@ -10,3 +10,8 @@ pub mod Classes
 pub mod RoundTrip
 pub mod Bytes
 pub mod Examples
+pub mod Found
+pub mod Front
+pub mod WellFormed
+pub mod Growing
+pub mod FileOrder

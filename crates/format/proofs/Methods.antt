@@ -1,15 +1,13 @@
 -- Handlers, parameters and methods in a file.
-use Prim.Native.Nat.{ℕ, zero, suc, _+_, _^_, _<_}
-use mathlib.Core.Bool.{Bool, true, false, _&&_}
-use mathlib.Core.List.{List, [], _∷_, _++_}
-use mathlib.Core.Path.{_≡_, refl, sym, ap, subst, _∙_}
-use lib.Dec.{ltb, leb}
+use Prim.Native.Nat.{ℕ, _+_, _<_}
+use mathlib.Core.Bool.{true}
+use mathlib.Core.List.{List}
+use mathlib.Core.Path.{_≡_, refl, sym, _∙_}
+use lib.Dec.{leb}
 use lib.ListN.{length}
 use native.Mathlib.Omega.{arith}
-use Rattle.std.specs.shelf.Lists.{All, joined}
 use Rattle.std.proofs.shelf.Tests.{leb-true}
-use Rattle.std.specs.declared.result.Result.{Result}
-use Rattle.std.specs.declared.result.Result.the-variants.{Ok, Err}
+use Rattle.std.specs.declared.result.Result.the-variants.{Ok}
 use Rattle.number.specs.Laws.{All-bytes}
 use Rattle.number.specs.Numbers.{number-limit, bytes}
 use Rattle.jinja.specs.declared.ty.Ty.{Ty}
@@ -17,15 +15,15 @@ use Rattle.jinja.specs.declared.instr.Instr.{Instr}
 use Rattle.jinja.specs.declared.program.Handler.{Handler}
 use Rattle.jinja.specs.Program.{MethodDecl, Program}
 use Rattle.jinja.specs.Types.{type-exists}
-use Rattle.format.specs.Limits.{max-params, max-height, max-name, max-operand, max-handler-number}
+use Rattle.format.specs.Limits.{max-params, max-height, max-operand, max-handler-number}
 use Rattle.format.specs.Encode.{type-bytes, instr-bytes, handler-bytes, counted-bytes, method-bytes}
-use Rattle.format.specs.Rules.{all-of, each, each-after, method-name, instr-keeps, handler-keeps, method-keeps, override-keeps, registers-keep, code-keeps, handlers-keep, count-code, count-handlers, program-code, program-handlers}
-use Rattle.format.specs.Reading.{Read, then, checked, counted, any-at, at-most}
+use Rattle.format.specs.Rules.{each, method-name, instr-keeps, handler-keeps, method-keeps, override-keeps, registers-keep, code-keeps, handlers-keep, count-code, count-handlers, program-code, program-handlers}
+use Rattle.format.specs.Reading.{any-at, at-most}
 use Rattle.format.specs.Parse.{type-at, name-at, instr-at, handler-at, params-at, result-at, extras-at, code-at, handlers-at, method-at}
-use Rattle.format.proofs.Steps.{Stands, both, split, then-ok, then-by, then-from, checked-ok, checked-from}
+use Rattle.format.proofs.Steps.{Stands, given, both, split, then-ok, then-by, then-from, checked-ok, checked-from}
 use Rattle.format.proofs.Lists.{at-most-list, plain-list-reads, plain-list-wrote}
 use Rattle.format.proofs.Kept.{code-fits, handler-kept, kept-handler, method-kept, kept-method}
-use Rattle.format.proofs.Numbers.{given, any-reads, at-most-reads, name-reads, type-reads, any-wrote, at-most-wrote, name-wrote, type-wrote}
+use Rattle.format.proofs.Numbers.{any-reads, at-most-reads, name-reads, type-reads, any-wrote, at-most-wrote, name-wrote, type-wrote}
 use Rattle.format.proofs.Instrs.{instr-reads, instr-wrote}
 
 module _ (file : List ℕ) where

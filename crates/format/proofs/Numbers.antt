@@ -1,12 +1,11 @@
 -- Numbers as a file's items are made of them: any number, those with a limit, names and types.
-use Prim.Native.Nat.{ℕ, zero, suc, _+_, _*_, _/_, _%_, _^_, _<_, _≤_}
-use mathlib.Core.Bool.{Bool, true, false, cond}
-use mathlib.Core.List.{List, [], _∷_, _++_}
+use Prim.Native.Nat.{ℕ, zero, suc, _+_, _<_}
+use mathlib.Core.Bool.{true}
+use mathlib.Core.List.{List}
 use mathlib.Core.Path.{_≡_, refl, sym, ap, subst, _∙_}
-use lib.Dec.{ltb, leb, eqb}
-use lib.ListN.{length, drop}
+use lib.Dec.{ltb, leb}
+use lib.ListN.{drop}
 use native.Mathlib.Omega.{arith}
-use Rattle.std.specs.shelf.Lists.{All}
 use Rattle.std.proofs.shelf.Tests.{leb-true, ltb-true}
 use Rattle.std.proofs.shelf.Ways.{tells}
 use Rattle.std.specs.declared.result.Result.{Result}
@@ -20,19 +19,15 @@ use Rattle.jinja.specs.declared.ty.Ty.the-variants.{Void, Boolean, Integer, Nul
 use Rattle.jinja.specs.Types.{type-number, type-of-number, type-exists}
 use Rattle.format.specs.Limits.{max-name}
 use Rattle.format.specs.Encode.{type-bytes}
-use Rattle.format.specs.Reading.{Read, lifted, then, checked, any-at, at-most}
+use Rattle.format.specs.Reading.{lifted, any-at, at-most}
 use Rattle.format.specs.Rules.{unused}
 use Rattle.format.specs.Parse.{type-at, name-at}
-use Rattle.format.proofs.Counting.{ok-same}
-use Rattle.format.proofs.Steps.{Stands, then-ok, then-from, checked-ok, checked-from}
+use Rattle.format.proofs.Counting.{ok-not-err}
+use Rattle.format.proofs.Steps.{Stands, given, then-ok, then-from, checked-ok, checked-from}
 
 lifted-ok : {A : Type 0} (x : Result A NumberFault) (a : A) → lifted x ≡ Ok a → x ≡ Ok a
 lifted-ok (Ok r) a e = cc
-lifted-ok (Err f) a e = absurd (let z : _≡_ {A = ℕ} 0 1 = cc in omega arith)
-
--- what a step gives is the item and the place
-pub given : {A : Type 0} (P : A → ℕ → Type 0) (a b : A) (p q : ℕ) → _≡_ {A = Read A} (Ok (a, p)) (Ok (b, q)) → P a p → P b q
-given P a b p q e h = subst (λ (z : _ × ℕ). P (z .0) (z .1)) (ok-same (a, p) (b, q) e) h
+lifted-ok (Err f) a e = absurd (ok-not-err (sym e))
 
 number-of-type : (t : Ty) → type-of-number (type-number t) ≡ t
 number-of-type Void = refl

@@ -1,27 +1,26 @@
 -- Whole files: what was written is read, and what is read was written.
-use Prim.Native.Nat.{ℕ, zero, suc, _+_, _^_, _<_, _≤_}
-use mathlib.Core.Bool.{Bool, true, false, cond, _&&_}
-use mathlib.Core.List.{List, [], _∷_, _++_}
+use Prim.Native.Nat.{ℕ, _+_, _≤_}
+use mathlib.Core.Bool.{_&&_}
+use mathlib.Core.List.{List, [], _++_}
 use mathlib.Core.Logic.{inl, inr}
-use mathlib.Core.Path.{_≡_, refl, sym, ap, subst, _∙_}
+use mathlib.Core.Path.{_≡_, sym, ap, _∙_}
 use lib.Dec.{leb}
 use lib.ListN.{length, drop}
 use native.Mathlib.Omega.{arith}
-use Rattle.std.specs.shelf.Lists.{All, joined}
-use Rattle.std.proofs.shelf.Lists.{append-nil, drop-all, length-append}
+use Rattle.std.specs.shelf.Lists.{joined}
+use Rattle.std.proofs.shelf.Lists.{append-nil, drop-all}
 use Rattle.std.proofs.shelf.Tests.{cases-bool, cond-true, leb-true, le-leb, and-parts, and-from}
-use Rattle.std.specs.declared.result.Result.{Result}
 use Rattle.std.specs.declared.result.Result.the-variants.{Ok, Err}
 use Rattle.number.specs.Numbers.{bytes}
-use Rattle.jinja.specs.Program.{ClassDecl, Program}
+use Rattle.jinja.specs.Program.{Program}
 use Rattle.format.specs.Limits.{max-classes}
 use Rattle.format.specs.Encode.{class-bytes, encode}
-use Rattle.format.specs.Rules.{each-after, class-keeps, keeps}
-use Rattle.format.specs.Reading.{Read, then, at-most}
+use Rattle.format.specs.Rules.{class-keeps, keeps}
+use Rattle.format.specs.Reading.{Read, at-most}
 use Rattle.format.specs.Parse.{class-at, classes-at, ended, parse}
-use Rattle.format.specs.Laws.{Written-is-read, Read-was-written, Read-exactly, Files-are-encodings, One-program}
-use Rattle.format.proofs.Counting.{ok-same}
-use Rattle.format.proofs.Steps.{Stands, both, split, then-ok, then-by, then-from, counted-reads, counted-wrote}
+use Rattle.format.specs.Laws.{Written-is-read, Read-was-written, Files-are-encodings, One-program}
+use Rattle.format.proofs.Counting.{ok-same, ok-not-err}
+use Rattle.format.proofs.Steps.{Stands, both, split, then-by, then-from, counted-reads, counted-wrote}
 use Rattle.format.proofs.Numbers.{at-most-reads, at-most-wrote}
 use Rattle.format.proofs.Kept.{few-before}
 use Rattle.format.proofs.Classes.{class-reads, class-wrote}
@@ -40,12 +39,12 @@ written-is-read P k =
     (λ acc p q c ok s. (let t = and-parts (leb (length acc) max-classes) (class-keeps n acc c) ok in class-reads file n (omega arith) acc p q c (leb-true _ _ (t .0)) (t .1) s)) P [] (w .0) (length file) (few-before (class-keeps n) P [] (omega arith) (h .1)) (w .2) in
     ap (ended file) (then-from (at-most file max-classes 0) _ (length P) (w .0) _ a b) ∙ cond-true (leb (length file) (length file)) _ _ (le-leb (length file) (length file) (omega arith))
 
-ended-ok : (file : List ℕ) (x : Read Program) (P : Program) → ended file x ≡ Ok P → (q : ℕ) × (x ≡ Ok (P, q)) × (length file ≤ q)
+pub ended-ok : (file : List ℕ) (x : Read Program) (P : Program) → ended file x ≡ Ok P → (q : ℕ) × (x ≡ Ok (P, q)) × (length file ≤ q)
 ended-ok file (Ok r) P e = elim (cases-bool (leb (length file) (r .1))) [
   | inl t ↦ (r .1, ap (λ z. Ok (z, r .1)) (ok-same (r .0) P (rw t at e)), leb-true _ _ t)
-  | inr t ↦ absurd (let f = rw t at e in let z : _≡_ {A = ℕ} 0 1 = cc in omega arith)
+  | inr t ↦ absurd (ok-not-err (sym (rw t at e)))
 ]
-ended-ok file (Err f) P e = absurd (let z : _≡_ {A = ℕ} 0 1 = cc in omega arith)
+ended-ok file (Err f) P e = absurd (ok-not-err (sym e))
 
 pub read-was-written : Read-was-written
 unfolding parse classes-at encode keeps

@@ -2,25 +2,24 @@
 use Prim.Native.Nat.{ℕ, zero, suc, _+_}
 use mathlib.Core.Bool.{Bool, true, false}
 use mathlib.Core.List.{List, [], _∷_, _++_}
-use mathlib.Core.Path.{_≡_, refl, sym, ap, _∙_}
+use mathlib.Core.Path.{_≡_, refl, sym, ap, subst, _∙_}
 use lib.ListN.{length, drop}
 use native.Mathlib.Omega.{arith}
 use native.Mathlib.Nat.{add-assoc}
 use Rattle.std.specs.shelf.Lists.{joined}
 use Rattle.std.proofs.shelf.Lists.{append-assoc, append-nil, length-append}
 use Rattle.std.proofs.shelf.Tests.{and-parts, and-from}
-use Rattle.std.specs.declared.result.Result.{Result}
 use Rattle.std.specs.declared.result.Result.the-variants.{Ok, Err}
 use Rattle.number.proofs.Law.{behind}
 use Rattle.format.specs.declared.fault.TableFault.{TableFault}
 use Rattle.format.specs.Reading.{Read, then, checked, counted}
 use Rattle.format.specs.Rules.{each-after}
-use Rattle.format.proofs.Counting.{ok-same}
+use Rattle.format.proofs.Counting.{ok-same, ok-not-err}
 
 -- the first of two steps gave a, and the second the answer
 pub then-ok : {A B : Type 0} (x : Read A) (k : A → ℕ → Read B) (b : B) (q : ℕ) → then x k ≡ Ok (b, q) → (a : A) × (r : ℕ) × (x ≡ Ok (a, r)) × (k a r ≡ Ok (b, q))
 then-ok (Ok r) k b q e = (r .0, r .1, refl, e)
-then-ok (Err f) k b q e = absurd (let z : _≡_ {A = ℕ} 0 1 = cc in omega arith)
+then-ok (Err f) k b q e = absurd (ok-not-err (sym e))
 
 -- the same, for a chain of steps
 pub then-by : {A B G : Type 0} (x : Read A) (k : A → ℕ → Read B) (b : B) (q : ℕ) → then x k ≡ Ok (b, q) → ((a : A) (r : ℕ) → x ≡ Ok (a, r) → k a r ≡ Ok (b, q) → G) → G
@@ -31,10 +30,14 @@ then-from x k a r y e f = ap (λ z. then z k) e ∙ f
 
 pub checked-ok : {A : Type 0} (t : Bool) (f : TableFault) (x : Read A) (a : A × ℕ) → checked t f x ≡ Ok a → (t ≡ true) × (x ≡ Ok a)
 checked-ok true f x a e = (refl, e)
-checked-ok false f x a e = absurd (let z : _≡_ {A = ℕ} 0 1 = cc in omega arith)
+checked-ok false f x a e = absurd (ok-not-err (sym e))
 
 pub checked-from : {A : Type 0} (t : Bool) (f : TableFault) (x y : Read A) → t ≡ true → x ≡ y → checked t f x ≡ y
 checked-from t f x y e h = ap (λ z. checked z f x) e ∙ h
+
+-- what a step gives is the item and the place
+pub given : {A : Type 0} (P : A → ℕ → Type 0) (a b : A) (p q : ℕ) → _≡_ {A = Read A} (Ok (a, p)) (Ok (b, q)) → P a p → P b q
+given P a b p q e h = subst (λ (z : _ × ℕ). P (z .0) (z .1)) (ok-same (a, p) (b, q) e) h
 
 -- the bytes e stand from p to before q
 abbrev pub Stands : List ℕ → ℕ → ℕ → List ℕ → Type 0

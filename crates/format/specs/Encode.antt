@@ -1,6 +1,6 @@
 -- How a program stands in a file. Assumes nothing.
 use Prim.Native.Nat.{ℕ}
-use mathlib.Core.Bool.{Bool, true, false}
+use mathlib.Core.Bool.{true, false}
 use mathlib.Core.List.{List, _++_}
 use lib.ListN.{length}
 use Rattle.std.specs.shelf.Lists.{joined}

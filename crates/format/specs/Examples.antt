@@ -12,7 +12,7 @@ use Rattle.number.specs.declared.fault.NumberFault.the-variants.{Cut, Padded, O
 use Rattle.jinja.specs.declared.ty.Ty.the-variants.{Integer as Integers}
 use Rattle.jinja.specs.declared.instr.Literal.the-variants.{Integer}
 use Rattle.jinja.specs.declared.instr.Instr.the-variants.{Push, Return, IAdd}
-use Rattle.jinja.specs.Program.{MethodDecl, ClassDecl, Program}
+use Rattle.jinja.specs.Program.{MethodDecl, Program}
 use Rattle.format.specs.declared.fault.TableFault.{TableFault}
 use Rattle.format.specs.declared.fault.TableFault.the-variants.{Number, Outside, Unknown, Classless, Twice, Override, LeftOver}
 use Rattle.format.specs.Encode.{encode}

@@ -1,11 +1,16 @@
 -- What files are, with no word of how they are read.
-use Prim.Native.Nat.{ℕ}
+use Prim.Native.Nat.{ℕ, _<_, _≤_}
 use mathlib.Core.Bool.{true}
-use mathlib.Core.List.{List}
+use mathlib.Core.List.{List, _++_}
 use mathlib.Core.Path.{_≡_}
-use Rattle.std.specs.declared.result.Result.the-variants.{Ok}
+use lib.ListN.{length, take}
+use Rattle.std.specs.declared.result.Result.the-variants.{Ok, Err}
+use Rattle.number.specs.declared.fault.NumberFault.the-variants.{Cut}
 use Rattle.number.specs.Laws.{All-bytes}
 use Rattle.jinja.specs.Program.{Program}
+use Rattle.format.specs.declared.fault.TableFault.{TableFault}
+use Rattle.format.specs.declared.fault.TableFault.the-variants.{Number}
+use Rattle.format.specs.Faults.{table-fault-number, table-fault-place}
 use Rattle.format.specs.Encode.{encode}
 use Rattle.format.specs.Rules.{keeps}
 use Rattle.format.specs.Parse.{parse}
@@ -33,3 +38,15 @@ Files-are-encodings = (file : List ℕ) (P : Program) → All-bytes file → Rea
 -- no two programs that keep the rules have one encoding
 abbrev pub One-program : Type 0
 One-program = (P Q : Program) → keeps P ≡ true → keeps Q ≡ true → encode P ≡ encode Q → P ≡ Q
+
+-- a fault stands in the file or right behind it
+abbrev pub Places-within : Type 0
+Places-within = (file : List ℕ) (f : TableFault) → parse file ≡ Err f → table-fault-place f ≤ length file
+
+-- faults come in file order: one that is no cut stays, whatever is added behind the file
+abbrev pub Faults-stay : Type 0
+Faults-stay = (file more : List ℕ) (f : TableFault) → parse file ≡ Err f → (table-fault-number f ≡ 1 → ⊥) → parse (file ++ more) ≡ Err f
+
+-- an encoding that breaks off is cut
+abbrev pub Beginnings-are-cut : Type 0
+Beginnings-are-cut = (P : Program) (n : ℕ) → keeps P ≡ true → n < length (encode P) → (p : ℕ) × (parse (take n (encode P)) ≡ Err (Number (Cut p)))

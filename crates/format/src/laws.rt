@@ -1,5 +1,6 @@
 // The laws of files, each carried by the contract of a function.
 ghost use Rattle.format.specs.Laws.{Written-is-read, Read-was-written, Written-in-bytes, Files-are-encodings, One-program};
+ghost use Rattle.format.specs.Laws.{Places-within, Faults-stay, Beginnings-are-cut};
 ghost use Rattle.format.specs.Examples.{Examples-stand};
 
 /// Files stand: what was written is read, what is read was written, and a program that keeps the rules has an encoding
@@ -10,6 +11,16 @@ pub fn files_stand() -> u8
     ensures bytes { λ _. ⌜ Written-in-bytes ⌝ }
     ensures exactly { λ _. ⌜ Files-are-encodings ⌝ }
     ensures one { λ _. ⌜ One-program ⌝ }
+{
+    0
+}
+
+/// Faults come in file order: each stands in the file or right behind it, one that is no cut stays whatever is added
+/// behind the file, and an encoding that breaks off is cut.
+pub fn faults_in_order() -> u8
+    ensures places { λ _. ⌜ Places-within ⌝ }
+    ensures stay { λ _. ⌜ Faults-stay ⌝ }
+    ensures cut { λ _. ⌜ Beginnings-are-cut ⌝ }
 {
     0
 }
