@@ -1,7 +1,6 @@
 -- The objects of a cell heap, by its cells.
 use mathlib.Core.Path.{_≡_, refl, sym, ap, _∙_}
 use mathlib.Core.List.{List, [], _∷_, _++_}
-use mathlib.Core.Logic.{_≢_}
 use Prim.Native.Nat.{ℕ, _+_, _≤_, _<_}
 use native.Mathlib.Omega.{arith}
 use native.Mathlib.Numerals.{add-one}
@@ -13,6 +12,7 @@ use Rattle.heap.specs.declared.value.Value.the-variants.{Unit as unit}
 use Rattle.heap.specs.declared.cell.Cell.{Cell}
 use Rattle.heap.specs.declared.cell.Cell.the-variants.{Field}
 use Rattle.heap.specs.declared.cells.CellHeap.{CellHeap}
+use Rattle.heap.specs.Limits.{cell-limit}
 use Rattle.heap.specs.Meaning.{used}
 use Rattle.heap.specs.Calls.{object-at, with-field}
 use Rattle.heap.specs.Strip.{start, object-from, objects-of}
@@ -30,7 +30,7 @@ module _ (h : CellHeap) where
     object-of-cells = object-there cell (cell-at (h .cells)) (h .count) a l
 
     -- the object's cells are all in use
-    within-top : start cell (cell-at (h .cells)) a + (1 + len-of (cell-at (h .cells) (start cell (cell-at (h .cells)) a))) ≤ 1024
+    within-top : start cell (cell-at (h .cells)) a + (1 + len-of (cell-at (h .cells) (start cell (cell-at (h .cells)) a))) ≤ cell-limit
     within-top = let n = start-next cell (cell-at (h .cells)) a (h .count) l in let t = h .laid in omega arith
 
     row-of-cells : length (object-at (cell-meaning h) a .row) ≡ len-of (cell-at (h .cells) (start cell (cell-at (h .cells)) a))
@@ -97,7 +97,7 @@ module _ (h : CellHeap) where
         let q = ap (λ y. len-of (cell-at cs y)) p ∙ n in
         omega arith
 
-    pub index-after-push : h .count < 1024 → (a : ℕ) → a < h .count + 1 → getD (set (h .starts) (h .count) (h .top)) a 0 ≡ start cell (cell-at cs) a
+    pub index-after-push : h .count < cell-limit → (a : ℕ) → a < h .count + 1 → getD (set (h .starts) (h .count) (h .top)) a 0 ≡ start cell (cell-at cs) a
     index-after-push l =
         below-more _ _
         (λ a m. getD-set-other (h .starts) (h .count) a (h .top) 0 (omega arith) ∙ h .indexed a m ∙ sym (starts-below a (omega arith)))

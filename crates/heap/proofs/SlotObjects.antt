@@ -12,7 +12,8 @@ use Rattle.heap.specs.declared.value.Value.{Value}
 use Rattle.heap.specs.declared.value.Value.the-variants.{Unit as unit}
 use Rattle.heap.specs.declared.slots.Slot.{Slot}
 use Rattle.heap.specs.declared.slots.SlotHeap.{SlotHeap}
-use Rattle.heap.specs.Meaning.{Object, Meaning, cost, used}
+use Rattle.heap.specs.Limits.{row-limit, slot-limit}
+use Rattle.heap.specs.Meaning.{Object, cost, used}
 use Rattle.heap.specs.Calls.{no-object, object-at, with-field}
 use Rattle.heap.specs.Slots.{slot-line, slot-object, slot-meaning}
 use Rattle.heap.specs.SlotsLawful.{slots-length, slots-lawful}
@@ -25,7 +26,7 @@ used-slots (o ∷ os) =
     let e = sumBy-cons (λ x. cost slot-line (length (x .row))) o os in
     omega (arith, e, used-slots os, zero-mul (length (o .row)))
 
-pub slot-row-short : (h : SlotHeap) (a : ℕ) → a < h .count → length (object-at (slot-meaning h) a .row) ≤ 8
+pub slot-row-short : (h : SlotHeap) (a : ℕ) → a < h .count → length (object-at (slot-meaning h) a .row) ≤ row-limit
 slot-row-short h a l =
     let e = slots-length h in row-short (slot-meaning h) a (omega arith) (slots-lawful h)
 
@@ -57,7 +58,7 @@ module _ (h : SlotHeap) (a : ℕ) (d : Slot) (l : a < h .count) where
       ∙ ap (set (slot-meaning h .objects) a) p
 
 -- one slot more
-pub slots-push : (h : SlotHeap) (s : Slot) (c : ℕ) (vs : List Value) → h .count < 128 → s .class ≡ c → take (s .len) (s .row) ≡ vs → map slot-object (take (h .count + 1) (set (h .slots) (h .count) s)) ≡ slot-meaning h .objects ++ (record { class = c; row = vs }) ∷ []
+pub slots-push : (h : SlotHeap) (s : Slot) (c : ℕ) (vs : List Value) → h .count < slot-limit → s .class ≡ c → take (s .len) (s .row) ≡ vs → map slot-object (take (h .count + 1) (set (h .slots) (h .count) s)) ≡ slot-meaning h .objects ++ (record { class = c; row = vs }) ∷ []
 slots-push h s c vs l e r =
     let p : slot-object s ≡ record { class = c; row = vs } = simp (e, r) in
     ap (map slot-object) (take-more-set (h .slots) (h .count) s (omega arith))

@@ -1,14 +1,11 @@
 -- What holds of every state of every heap.
-use mathlib.Core.List.{List, [], _∷_}
+use mathlib.Core.List.{List, _∷_}
 use Prim.Native.Nat.{ℕ, _+_, _*_, _≤_, _<_}
 use lib.ListN.{length}
 use Rattle.std.specs.shelf.Lists.{All}
 use Rattle.heap.specs.declared.charge.ChargeLine.{ChargeLine}
 use Rattle.heap.specs.Meaning.{Meaning, row-limit}
-
--- the greatest number of a line, and the greatest count of objects: 16 bits hold every address
-abbrev pub word-limit : ℕ
-word-limit = 65535
+pub use Rattle.heap.specs.Limits.{word-limit}
 
 pub record SmallLine (l : ChargeLine) : Type 0 where
   pub fixed : l .fixed ≤ word-limit

@@ -1,5 +1,6 @@
 -- What heaps mean, and then what each heap's layout means.
 pub mod Faults
+pub mod Limits
 pub mod Meaning
 pub mod Calls
 pub mod Lawful

@@ -7,6 +7,7 @@ use lib.Dec.{leb}
 use Rattle.std.specs.shelf.Lists.{sumBy}
 use Rattle.heap.specs.declared.value.Value.{Value}
 use Rattle.heap.specs.declared.charge.ChargeLine.{ChargeLine}
+pub use Rattle.heap.specs.Limits.{row-limit}
 
 pub record Object : Type 0 where
   pub class : ℕ
@@ -15,10 +16,6 @@ pub record Object : Type 0 where
 pub record Meaning : Type 0 where
   pub objects : List Object
   pub lines : List ChargeLine
-
--- the most values that a row has
-abbrev pub row-limit : ℕ
-row-limit = 8
 
 -- what an object of n fields costs on a line
 abbrev pub cost : ChargeLine → ℕ → ℕ

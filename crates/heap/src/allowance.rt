@@ -1,7 +1,8 @@
 // The allowance: a heap made over any other, with one line more.
 ghost use mathlib.Core.Path.{_≡_};
 ghost use Prim.Native.Nat.{_≤_};
-ghost use Rattle.heap.specs.Calls.{vacant, under, after-empty};
+ghost use Rattle.heap.specs.Limits.{word-limit};
+ghost use Rattle.heap.specs.Calls.{under, after-empty};
 ghost use Rattle.heap.specs.AllowanceLawful.{under-lawful};
 use crate::charge::ChargeLine;
 use crate::fault::HeapFault;
@@ -16,13 +17,13 @@ use crate::value::Value;
 pub struct Allowance<L: Heap> {
     lower: L,
     own: ChargeLine,
-    ghost fixed: { own .fixed ≤ 65535 },
-    ghost field: { own .«per_field» ≤ 65535 },
-    ghost total: { own .total ≤ 65535 },
+    ghost fixed: { own .fixed ≤ word-limit },
+    ghost field: { own .«per_field» ≤ word-limit },
+    ghost total: { own .total ≤ word-limit },
 }
 
 impl<L: Heap> Allowance<L> {
-    /// Empties the lower heap, and puts it under the line.
+    /// Empties the lower heap, and puts it under one line more. Any line will do, (0, 0, 0) and (1, 0, 0) too.
     pub fn new(mut lower: L, line: ChargeLine) -> Allowance<L>
         ensures { λ r. ⌜ under (r .own) (L·Heap .meaning (r .lower)) ≡ under line (after-empty (L·Heap .meaning lower)) ⌝ }
     {
@@ -34,7 +35,7 @@ impl<L: Heap> Allowance<L> {
 pub impl<L: Heap> Heap for Allowance<L> as AllowanceHeap {
     ghost meaning = { λ s. under (s .own) (L·Heap .meaning (s .lower)) };
 
-    ghost lawful = { λ s. under-lawful (s .own) (L·Heap .meaning (s .lower)) (s .fixed) (s .field) (s .total) (L·Heap .lawful (s .lower)) };
+    ghost lawful = { λ s. under-lawful (s .own) (L·Heap .meaning (s .lower)) (record { fixed = s .fixed; per-field = s .field; total = s .total }) (L·Heap .lawful (s .lower)) };
 
     fn add(&mut self, class: u8, row: &[Value]) -> Result<u16, HeapFault> {
         let n = row.len();

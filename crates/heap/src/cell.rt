@@ -1,5 +1,6 @@
 // A cell of the cell heap.
 ghost use Prim.Native.Nat.{_≤_};
+ghost use Rattle.heap.specs.Limits.{row-limit};
 use crate::value::Value;
 
 /// The head of an object: its class, and how many fields come after it.
@@ -7,7 +8,7 @@ use crate::value::Value;
 pub struct Head {
     pub(crate) class: u8,
     pub(crate) len: u8,
-    ghost short: { len ≤ 8 },
+    ghost short: { len ≤ row-limit },
 }
 
 /// Where an object starts, or one of its fields.

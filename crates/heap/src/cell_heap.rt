@@ -4,6 +4,7 @@ ghost use mathlib.Core.List.{[], _∷_};
 ghost use Prim.Native.Nat.{ℕ, _+_, _≤_, _<_};
 ghost use lib.ListN.{length, getD};
 ghost use Rattle.heap.specs.declared.value.Value.the-variants.{Unit as unit};
+ghost use Rattle.heap.specs.Limits.{row-limit, cell-limit};
 ghost use Rattle.heap.specs.Meaning.{used};
 ghost use Rattle.heap.specs.Calls.{object-at, with-object, with-value, vacant};
 ghost use Rattle.heap.specs.Cells.{cell-at, class-of, len-of, value-of};
@@ -11,10 +12,10 @@ ghost use Rattle.heap.specs.CellHeaps.{cell-line, cell-meaning, HeadAt, FieldA
 ghost use Rattle.heap.specs.CellsLawful.{cells-lawful};
 use crate::cell::Cell;
 use crate::cell::Head;
-use crate::cells::CELLS;
 pub use crate::cells::CellHeap;
 use crate::charge::ChargeLine;
 use crate::fault::HeapFault;
+use crate::limits::CELLS;
 use crate::limits::ROW_LIMIT;
 use crate::store::Heap;
 use crate::value::Value;
@@ -23,7 +24,7 @@ use crate::value::Value;
 pub const CELL_LINE: ChargeLine = ChargeLine {
     fixed: 1,
     per_field: 1,
-    total: 1024,
+    total: CELLS as u16,
 };
 
 impl CellHeap {
@@ -72,6 +73,7 @@ impl CellHeap {
         self.head(addr) + (1 + field)
     }
 
+    // What stands at an address, and the two changes, where there is an object, a field or room.
     fn class_at(&self, addr: u16) -> u8
         requires { ⌜ addr < now self .count ⌝ }
         ensures { λ r. ⌜ r ≡ object-at (cell-meaning (now (self .entry))) addr .class ⌝ }
@@ -104,8 +106,8 @@ impl CellHeap {
     }
 
     fn push(&mut self, class: u8, row: &[Value])
-        requires short { ⌜ length (now row) ≤ 8 ⌝ }
-        requires room { ⌜ now self .top + (1 + length (now row)) ≤ 1024 ⌝ }
+        requires short { ⌜ length (now row) ≤ row-limit ⌝ }
+        requires room { ⌜ now self .top + (1 + length (now row)) ≤ cell-limit ⌝ }
         ensures { λ _. ⌜ cell-meaning (now (self .exit)) ≡ with-object (cell-meaning (now (self .entry))) class (now (row .entry)) ⌝ }
     {
         let at = self.top;
@@ -119,7 +121,7 @@ impl CellHeap {
 
 // An object's head and fields, from a place on.
 fn lay(cells: &mut [Cell], at: usize, class: u8, row: &[Value])
-    requires short { ⌜ length (now row) ≤ 8 ⌝ }
+    requires short { ⌜ length (now row) ≤ row-limit ⌝ }
     requires room { ⌜ at + (1 + length (now row)) ≤ length (now cells) ⌝ }
     ensures before { λ _. ⌜ ((j : ℕ) → j < at → cell-at (now (cells .exit)) j ≡ cell-at (now (cells .entry)) j) ⌝ }
     ensures class { λ _. ⌜ class-of (cell-at (now (cells .exit)) at) ≡ class ⌝ }
@@ -135,6 +137,7 @@ fn lay(cells: &mut [Cell], at: usize, class: u8, row: &[Value])
     }
 }
 
+// What a cell says as a head, and as a field.
 fn class_of(cell: Cell) -> u8
     ensures { λ r. ⌜ r ≡ class-of cell ⌝ }
 {

@@ -4,6 +4,7 @@ ghost use mathlib.Core.List.{[], _∷_};
 ghost use Prim.Native.Nat.{_≤_, _<_};
 ghost use lib.ListN.{length, getD, take};
 ghost use Rattle.heap.specs.declared.value.Value.the-variants.{Unit as unit};
+ghost use Rattle.heap.specs.Limits.{row-limit, slot-limit};
 ghost use Rattle.heap.specs.Meaning.{used};
 ghost use Rattle.heap.specs.Calls.{object-at, with-object, with-value, vacant};
 ghost use Rattle.heap.specs.Slots.{slot-line, slot-meaning};
@@ -11,7 +12,7 @@ ghost use Rattle.heap.specs.SlotsLawful.{slots-lawful};
 use crate::charge::ChargeLine;
 use crate::fault::HeapFault;
 use crate::limits::ROW_LIMIT;
-use crate::slots::SLOTS;
+use crate::limits::SLOTS;
 use crate::slots::Slot;
 pub use crate::slots::SlotHeap;
 use crate::store::Heap;
@@ -21,7 +22,7 @@ use crate::value::Value;
 pub const SLOT_LINE: ChargeLine = ChargeLine {
     fixed: 1,
     per_field: 0,
-    total: 128,
+    total: SLOTS as u16,
 };
 
 impl SlotHeap {
@@ -49,6 +50,7 @@ impl SlotHeap {
         self.count
     }
 
+    // What stands at an address, and the two changes, where there is an object, a field or room.
     fn class_at(&self, addr: u16) -> u8
         requires { ⌜ addr < now self .count ⌝ }
         ensures { λ r. ⌜ r ≡ object-at (slot-meaning (now (self .entry))) addr .class ⌝ }
@@ -80,8 +82,8 @@ impl SlotHeap {
     }
 
     fn push(&mut self, class: u8, row: &[Value])
-        requires free { ⌜ now self .count < 128 ⌝ }
-        requires short { ⌜ length (now row) ≤ 8 ⌝ }
+        requires free { ⌜ now self .count < slot-limit ⌝ }
+        requires short { ⌜ length (now row) ≤ row-limit ⌝ }
         ensures { λ _. ⌜ slot-meaning (now (self .exit)) ≡ with-object (slot-meaning (now (self .entry))) class (now (row .entry)) ⌝ }
     {
         let at = self.count as usize;
@@ -90,8 +92,9 @@ impl SlotHeap {
     }
 }
 
+// A slot that holds an object.
 fn slot_of(class: u8, row: &[Value]) -> Slot
-    requires { ⌜ length (now row) ≤ 8 ⌝ }
+    requires { ⌜ length (now row) ≤ row-limit ⌝ }
     ensures class { λ r. ⌜ r .class ≡ class ⌝ }
     ensures row { λ r. ⌜ take (r .len) (r .row) ≡ now (row .entry) ⌝ }
 {

@@ -9,5 +9,11 @@ pub fn clear<H: Heap>(heap: &mut H)
     ensures after { λ _. ⌜ H·Heap .meaning (now (heap .exit)) ≡ after-empty (H·Heap .meaning (now (heap .entry))) ⌝ }
     ensures totals { λ _. ⌜ KeepsLines (H·Heap .meaning (now (heap .exit))) ⌝ }
 {
+    promise(heap);
     heap.empty();
 }
+
+// What the calls of a heap keep to, once it is emptied.
+fn promise<H: Heap>(heap: &H)
+    ensures { λ _. ⌜ KeepsLines (after-empty (H·Heap .meaning (now (heap .entry)))) ⌝ }
+{}

@@ -1,8 +1,9 @@
 // What a heap's objects cost on a charge line.
 ghost use mathlib.Core.Path.{_≡_};
 ghost use Prim.Native.Nat.{_*_, _≤_};
-ghost use Rattle.heap.specs.Meaning.{cost, used, row-limit};
-ghost use Rattle.heap.specs.Lawful.{cost-limit, word-limit};
+ghost use Rattle.heap.specs.Limits.{row-limit, word-limit};
+ghost use Rattle.heap.specs.Meaning.{cost, used};
+ghost use Rattle.heap.specs.Lawful.{cost-limit};
 use crate::charge::ChargeLine;
 use crate::store::Heap;
 

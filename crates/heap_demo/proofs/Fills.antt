@@ -4,7 +4,7 @@ use mathlib.Core.List.{List, [], _∷_}
 use mathlib.Core.Bool.{Bool, true, false, cond}
 use Prim.Native.Nat.{ℕ, _+_, _≤_}
 use native.Mathlib.Omega.{arith}
-use lib.ListN.{length, replicate, length-replicate, replicate-append-replicate}
+use lib.ListN.{length, length-replicate, replicate-append-replicate}
 use Rattle.std.proofs.shelf.Tests.{cond-true, cond-false}
 use Rattle.std.specs.Results.{isOk}
 use Rattle.std.specs.declared.result.Result.{Result}
@@ -55,8 +55,8 @@ module _ (m after : Meaning) (c : ℕ) (vs : List Value) (r : Result ℕ HeapFau
       ∙ ap (λ os. record { objects = os; lines = ls }) (replicate-append-replicate n 1 (record { class = c; row = vs })) in
       (p, keeps, holding-few after ls (n + 1) c vs p keeps)
 
-  pub refused : isOk r ≡ false → (after ≡ m) × (admits after (length vs) ≡ false) × WithinTotals after
-  refused o =
+  pub refused : (ls : List ChargeLine) (n : ℕ) → isOk r ≡ false → m ≡ holding ls n c vs → (after ≡ holding ls n c vs) × (admits after (length vs) ≡ false) × WithinTotals after
+  refused ls n o h =
       let f = admitted false o in
       let p : after ≡ m = e ∙ cond-false (admits m (length vs)) (with-object m c vs) m f in
-      (p, ap (λ x. admits x (length vs)) p ∙ f, keeps .within [])
+      (p ∙ h, ap (λ x. admits x (length vs)) p ∙ f, keeps .within [])

@@ -1,14 +1,13 @@
 use native.Mathlib.Omega.{arith}
-use mathlib.Core.Path.{_≡_, ap, _∙_}
-use mathlib.Core.Logic.{_≢_}
-use Prim.Native.Nat.{_+_, _<_}
-use lib.ListN.{length, getD}
+use mathlib.Core.Path.{ap, _∙_}
+use Prim.Native.Nat.{_+_}
+use lib.ListN.{getD}
 use borrow.Author.Needs.{needs}
 use borrow.Author.Count.{below-more}
 use Rattle.std.proofs.shelf.Lists.{getD-set-same, getD-set-other}
 use Rattle.heap.specs.declared.value.Value.the-variants.{Unit as unit}
 use Rattle.heap.specs.declared.cell.Cell.the-variants.{Field}
-use Rattle.heap.specs.Cells.{cell-at, value-of}
+use Rattle.heap.specs.Cells.{value-of}
 use Rattle.heap.proofs.cell_heap.lay.Needs as need
 
 pub loop-i-again : need.loop-i-again

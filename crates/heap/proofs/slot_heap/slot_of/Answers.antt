@@ -2,7 +2,7 @@ use native.Mathlib.Omega.{arith}
 use mathlib.Core.Path.{_≡_, refl, sym, ap, _∙_}
 use mathlib.Core.List.{[], _∷_, _++_}
 use borrow.Author.Needs.{needs}
-use lib.ListN.{length, take, getD}
+use lib.ListN.{length, getD}
 use Rattle.std.proofs.shelf.Lists.{take-more, take-more-set, take-all}
 use Rattle.heap.specs.declared.value.Value.the-variants.{Unit as unit}
 use Rattle.heap.proofs.slot_heap.slot_of.Needs as need

@@ -23,6 +23,9 @@ pub returns : need.returns
 returns g c =
     let m = g .H·Heap .meaning (c .loop-taken .heap) in
     let n = g .H·Heap .meaning (c .add .last .self) in
-    let r = refused m n (c .args .class) (c .args .row .now) (c .add .result) (c .add .ensures .answer) (c .add .ensures .after) (c .loop-taken .inv .1) (sym (c .is-ok .ensures .value) ∙ c .loop-taken-test .left) in
+    let ls = g .H·Heap .meaning (c .args .heap .now) .lines in
     let l = ap (λ x. holding (x .lines) (c .loop-taken .taken) (c .args .class) (c .args .row .now)) (c .clear .ensures .after) in
-    record { after = r .0 ∙ c .loop-taken .inv .0 ∙ l; full = r .1; within = r .2 }
+    let r = refused m n (c .args .class) (c .args .row .now) (c .add .result) (c .add .ensures .answer) (c .add .ensures .after) (c .loop-taken .inv .1) ls (c .loop-taken .taken)
+    (sym (c .is-ok .ensures .value) ∙ c .loop-taken-test .left)
+    (c .loop-taken .inv .0 ∙ l) in
+    record { after = r .0; full = r .1; within = r .2 }

@@ -1,10 +1,6 @@
-use native.Mathlib.Omega.{arith}
 use mathlib.Core.Path.{ap}
 use Prim.Native.Nat.{_+_}
 use Rattle.heap.proofs.CellObjects.{field-found}
-use Rattle.heap.specs.CellsLawful.{cells-lawful, cells-length}
-use Rattle.heap.specs.CellHeaps.{cell-meaning}
-use Rattle.heap.proofs.Objects.{row-short}
 use Rattle.heap.proofs.cells.CellHeap.place.Needs as need
 
 pub returns : need.returns
