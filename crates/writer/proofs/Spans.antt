@@ -1,0 +1,27 @@
+-- The items of a span of a table.
+use Prim.Native.Nat.{ℕ, _+_, _-_, _<_, _≤_, zero-le}
+use mathlib.Core.List.{List}
+use mathlib.Core.Path.{_≡_, sym, subst, _∙_}
+use lib.ListN.{length, take, drop}
+use native.Mathlib.Omega.{arith}
+use Rattle.std.specs.shelf.Lists.{Every}
+use Rattle.std.proofs.shelf.Lists.{drop-take, take-take, getD-take, getD-drop, length-take}
+
+-- `table[f..f + c]`, where the table is filled up to n
+module _ {X : Type 0} (xs : List X) (f c n : ℕ) (within : f + c ≤ n) where
+  pub slice-is : take ((f + c) - f) (drop f xs) ≡ take c (drop f (take n xs))
+  slice-is =
+      let k : (f + c) - f ≡ c = omega arith in
+      let e : f + (n - f) ≡ n = omega arith in
+      let d : drop f (take n xs) ≡ take (n - f) (drop f xs) = rw e at (drop-take f (n - f) xs) in
+      let l : c ≤ n - f = omega arith in
+      rw (k, d) (sym (take-take c (n - f) (drop f xs) l))
+
+  pub slice-few : length (take ((f + c) - f) (drop f xs)) ≤ n
+  slice-few = simp length-take (omega arith)
+
+  -- what holds of all that is filled holds of the slice
+  pub slice-every : (P : X → Type 0) → Every P xs 0 n → Every P (take ((f + c) - f) (drop f xs)) 0 (length (take ((f + c) - f) (drop f xs)))
+  slice-every P h k d _ l =
+      let b : k < (f + c) - f = omega (arith, length-take ((f + c) - f) (drop f xs)) in
+      subst P (sym (getD-take ((f + c) - f) (drop f xs) k d b ∙ getD-drop f xs k d)) (h (f + k) d zero-le (omega arith))
