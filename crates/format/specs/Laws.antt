@@ -1,5 +1,5 @@
 -- What files are, with no word of how they are read.
-use Prim.Native.Nat.{ℕ, _<_, _≤_}
+use Prim.Native.Nat.{ℕ, _+_, _<_, _≤_}
 use mathlib.Core.Bool.{true}
 use mathlib.Core.List.{List, _++_}
 use mathlib.Core.Path.{_≡_}
@@ -7,6 +7,7 @@ use lib.ListN.{length, take}
 use Rattle.std.specs.declared.result.Result.the-variants.{Ok, Err}
 use Rattle.number.specs.declared.fault.NumberFault.the-variants.{Cut}
 use Rattle.number.specs.Laws.{All-bytes}
+use Rattle.number.specs.Numbers.{most-groups}
 use Rattle.jinja.specs.Program.{Program}
 use Rattle.format.specs.declared.fault.TableFault.{TableFault}
 use Rattle.format.specs.declared.fault.TableFault.the-variants.{Number}
@@ -43,7 +44,11 @@ One-program = (P Q : Program) → keeps P ≡ true → keeps Q ≡ true → enco
 abbrev pub Places-within : Type 0
 Places-within = (file : List ℕ) (f : TableFault) → parse file ≡ Err f → table-fault-place f ≤ length file
 
--- faults come in file order: one that is no cut stays, whatever is added behind the file
+-- faults come in file order: the bytes up to the number at its place settle a fault
+abbrev pub Faults-are-first : Type 0
+Faults-are-first = (file : List ℕ) (f : TableFault) → parse file ≡ Err f → parse (take (table-fault-place f + most-groups) file) ≡ Err f
+
+-- and one that is no cut stays, whatever is added behind the file
 abbrev pub Faults-stay : Type 0
 Faults-stay = (file more : List ℕ) (f : TableFault) → parse file ≡ Err f → (table-fault-number f ≡ 1 → ⊥) → parse (file ++ more) ≡ Err f
 

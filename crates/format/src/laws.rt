@@ -1,6 +1,6 @@
 // The laws of files, each carried by the contract of a function.
 ghost use Rattle.format.specs.Laws.{Written-is-read, Read-was-written, Written-in-bytes, Files-are-encodings, One-program};
-ghost use Rattle.format.specs.Laws.{Places-within, Faults-stay, Beginnings-are-cut};
+ghost use Rattle.format.specs.Laws.{Places-within, Faults-are-first, Faults-stay, Beginnings-are-cut};
 ghost use Rattle.format.specs.Examples.{Examples-stand};
 
 /// Files stand: what was written is read, what is read was written, and a program that keeps the rules has an encoding
@@ -15,10 +15,11 @@ pub fn files_stand() -> u8
     0
 }
 
-/// Faults come in file order: each stands in the file or right behind it, one that is no cut stays whatever is added
-/// behind the file, and an encoding that breaks off is cut.
+/// Faults come in file order: each stands in the file or right behind it, and the bytes up to the number at its place
+/// settle it; one that is no cut stays whatever is added behind the file, and an encoding that breaks off is cut.
 pub fn faults_in_order() -> u8
     ensures places { λ _. ⌜ Places-within ⌝ }
+    ensures first { λ _. ⌜ Faults-are-first ⌝ }
     ensures stay { λ _. ⌜ Faults-stay ⌝ }
     ensures cut { λ _. ⌜ Beginnings-are-cut ⌝ }
 {

@@ -1,4 +1,4 @@
-// The file format as definitions: limits, encoding, rules and parser, and the faults of a table.
+// The file format as definitions: limits, encoding, rules and parser; the faults of a table, and the laws of files.
 pub mod fault;
 pub mod laws;
 pub mod limits;

@@ -31,14 +31,12 @@ impl Tables {
     pub fn own_field(&self, c: ClassNumber, name: Name) -> Option<FieldPlace>
         ensures { λ r. ⌜ r ≡ own-field (program-of (now (self .entry))) c name ⌝ }
     {
+        let (i, ty) = self.declared(c, name)?;
         let above = self.row_len(self.superclass(c));
-        match self.declared(c, name) {
-            Some((i, ty)) => Some(FieldPlace {
-                place: above + i,
-                ty,
-            }),
-            None => None,
-        }
+        Some(FieldPlace {
+            place: above + i,
+            ty,
+        })
     }
 
     /// The type of the `i`-th value of an object of class `c`.

@@ -1,0 +1,48 @@
+-- Laws of the machine in the subject's words, of every program and every state. Assumes nothing.
+use Prim.Native.Nat.{ℕ, suc, _+_, _≤_, min}
+use mathlib.Core.Path.{_≡_}
+use mathlib.Core.Bool.{true}
+use Rattle.heap.specs.declared.value.Value.{Value}
+use Rattle.heap.specs.Meaning.{Meaning}
+use Rattle.jinja.specs.declared.answer.Answer.{Answer}
+use Rattle.jinja.specs.declared.answer.Answer.the-variants as answer
+use Rattle.jinja.specs.declared.answer.Refusal.{Refusal}
+use Rattle.jinja.specs.declared.answer.Refusal.the-variants as refusal
+use Rattle.jinja.specs.declared.answer.Phase.the-variants.{Finished, Uncaught}
+use Rattle.jinja.specs.declared.answer.Ran.{Ran}
+use Rattle.jinja.specs.declared.answer.Reply.the-variants as reply
+use Rattle.jinja.specs.Program.{Program}
+use Rattle.jinja.specs.Values.{same-value}
+use Rattle.jinja.specs.State.{State, most-steps, step, run}
+use Rattle.jinja.specs.Calls.{end, Call, perform}
+
+module _ (P : Program) where
+  -- n steps more behind a run that has answered x last: none, unless x is 0
+  abbrev pub and-then : Answer → ℕ → Ran × State → Ran × State
+  and-then answer.Stepped n o = (record { count = o .0 .count + run P n (o .1) .0 .count; last = run P n (o .1) .0 .last }, run P n (o .1) .1)
+  and-then answer.Finished n o = o
+  and-then answer.Uncaught n o = o
+  and-then answer.FramesFull n o = o
+  and-then answer.Unsound n o = o
+
+pub record MachineLaws (P : Program) : Type 0 where
+  -- running a + b steps is running a and then b
+  pub runs-add : (a b : ℕ) (s : State) → run P (a + b) s ≡ and-then P (run P a s .0 .last) b (run P a s)
+  -- a run counts its steps, and so does the machine, up to the greatest count
+  pub counts : (n : ℕ) (s : State) → s .steps ≤ most-steps → run P n s .1 .steps ≡ min (s .steps + run P n s .0 .count) most-steps
+  -- only a step that answers 0 changes anything
+  pub others-change-nothing : (s : State) → (step P s .0 ≡ answer.Stepped → ⊥) → step P s .1 ≡ s
+  -- a run that is over answers the same for ever
+  pub finished-stays : (n : ℕ) (s : State) → s .phase ≡ Finished → run P (suc n) s ≡ (record { count = 0; last = answer.Finished }, s)
+  pub uncaught-stays : (n : ℕ) (s : State) → s .phase ≡ Uncaught → run P (suc n) s ≡ (record { count = 0; last = answer.Uncaught }, s)
+  -- end leaves the heap, and a refusal leaves all, but for a begin that found no space
+  pub end-keeps-heap : (t : ℕ) (s : State) → end P t s .1 .heap ≡ s .heap
+  pub refusals-change-nothing : (c : Call) (s : State) (e : Refusal) → perform P c s .0 ≡ reply.Refused e → (e ≡ refusal.NoSpace → ⊥) → perform P c s .1 ≡ s
+
+abbrev pub Machine-laws : Type 0
+Machine-laws = (P : Program) → MachineLaws P
+
+-- CmpEq compares values whole
+pub record ValuesWhole : Type 0 where
+  pub same : (v w : Value) → same-value v w ≡ true → v ≡ w
+  pub itself : (v : Value) → same-value v v ≡ true
