@@ -7,7 +7,7 @@ use mathlib.Core.Path.{_≡_, refl, sym, ap, _∙_}
 use lib.Dec.{eqb}
 use lib.ListN.{length, take}
 use native.Mathlib.Omega.{arith}
-use native.Mathlib.Nat.{zero-add, add-zero, suc-add}
+use native.Mathlib.Nat.{zero-add, add-zero}
 use Rattle.std.specs.Finite.{nth}
 use Rattle.std.specs.declared.option.Option.{Option}
 use Rattle.std.specs.declared.option.Option.the-variants.{Some, None}
@@ -16,43 +16,17 @@ use Rattle.std.proofs.shelf.Tests.{eqb-true}
 use Rattle.jinja.specs.Program.{MethodDecl, ClassDecl, Program}
 use Rattle.jinja.specs.Classes.{maybe, table, class-at, superclass-of}
 use Rattle.jinja.specs.Lookups.{position, own-methods, Owned, methods-from, method-at, count-methods, own-method, sees-within}
-
-pub conflict : {A : Type 0} {a : A} → None ≡ Some a → ⊥
-conflict e = let z : _≡_ {A = ℕ} 0 1 = cc in omega arith
-
-pub some-inj : {A : Type 0} {a b : A} → Some a ≡ Some b → a ≡ b
-some-inj e = cc
-
-pub maybe-found : {A B : Type 0} (o : Option A) (f : A → Option B) {b : B} → maybe o None f ≡ Some b → (a : A) × (o ≡ Some a) × (f a ≡ Some b)
-maybe-found None f e = absurd (conflict e)
-maybe-found (Some a) f e = (a, refl, e)
+use Rattle.jinja.proofs.Options.{conflict, some-inj, maybe-found, nth-front, nth-back, nth-map}
 
 pub nth-in-front : {A : Type 0} (xs ys : List A) (i : ℕ) → i < length xs → nth (xs ++ ys) i ≡ nth xs i
 nth-in-front [] ys i l = absurd (omega arith)
 nth-in-front (x ∷ xs) ys zero l = refl
 nth-in-front (x ∷ xs) ys (suc i) l = nth-in-front xs ys i (omega arith)
 
-nth-below : {A : Type 0} (xs : List A) (i : ℕ) {a : A} → nth xs i ≡ Some a → i < length xs
-nth-below [] i e = absurd (conflict e)
-nth-below (x ∷ xs) zero e = omega arith
-nth-below (x ∷ xs) (suc i) e = let l = nth-below xs i e in omega arith
-
-pub nth-front : {A : Type 0} (xs ys : List A) (i : ℕ) {a : A} → nth xs i ≡ Some a → nth (xs ++ ys) i ≡ Some a
-nth-front xs ys i e = nth-in-front xs ys i (nth-below xs i e) ∙ e
-
-nth-back : {A : Type 0} (xs ys : List A) (i : ℕ) → nth (xs ++ ys) (length xs + i) ≡ nth ys i
-nth-back [] ys i = rw zero-add refl
-nth-back (x ∷ xs) ys i = rw suc-add (nth-back xs ys i)
-
 nth-either : {A : Type 0} (xs ys : List A) (i : ℕ) {a : A} → nth (xs ++ ys) i ≡ Some a → (nth xs i ≡ Some a) ⊎ ((j : ℕ) × (i ≡ length xs + j) × (nth ys j ≡ Some a))
 nth-either [] ys i e = inr (i, sym (zero-add i), e)
 nth-either (x ∷ xs) ys zero e = inl e
 nth-either (x ∷ xs) ys (suc i) e = elim (nth-either xs ys i e) [ inl h ↦ inl h | inr h ↦ inr (h .0, omega (arith, h .1), h .2) ]
-
-nth-map : {A B : Type 0} (f : A → B) (xs : List A) (i : ℕ) {a : A} → nth xs i ≡ Some a → nth (map f xs) i ≡ Some (f a)
-nth-map f [] i e = absurd (conflict e)
-nth-map f (x ∷ xs) zero e = ap (λ z. Some (f z)) (some-inj e)
-nth-map f (x ∷ xs) (suc i) e = nth-map f xs i e
 
 nth-of-map : {A B : Type 0} (f : A → B) (xs : List A) (i : ℕ) {b : B} → nth (map f xs) i ≡ Some b → (a : A) × (nth xs i ≡ Some a) × (f a ≡ b)
 nth-of-map f [] i e = absurd (conflict e)

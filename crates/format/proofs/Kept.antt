@@ -18,7 +18,7 @@ use Rattle.jinja.specs.Types.{type-exists}
 use Rattle.jinja.specs.Classes.{is-class}
 use Rattle.format.specs.Limits.{max-classes, max-params, max-height, max-code, max-instrs, max-name, max-operand, max-handler-number}
 use Rattle.format.specs.Rules.{all-of, each, each-after, unused, field-name, method-name, instr-keeps, handler-keeps, field-keeps, method-keeps, class-keeps, keeps, override-keeps, registers-keep, code-keeps, handlers-keep, fields-keep, methods-keep, count-code, count-handlers, program-code, program-handlers}
-use Rattle.format.proofs.Found.{conflict, some-inj}
+use Rattle.jinja.proofs.Options.{conflict, some-inj}
 
 -- tests of a list, each alone and all together
 test-at : (bs : List Bool) → all-of bs ≡ true → (i : ℕ) → getD bs i true ≡ true

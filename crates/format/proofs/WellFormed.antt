@@ -19,8 +19,10 @@ use Rattle.jinja.specs.Classes.{maybe, built-in, table, class-at, superclass-of
 use Rattle.jinja.specs.Lookups.{own-fields, fields-within, fields-of, Owned, method-at, own-method, sees-within, sees, overrides}
 use Rattle.format.specs.Limits.{max-fields}
 use Rattle.format.specs.Rules.{keeps, each, inherited, override-keeps}
+use Rattle.format.specs.Laws.{Kept-is-well-formed}
 use Rattle.format.proofs.Kept.{code-fits, each-at, kept-class-at, kept-field-at, kept-method-at}
-use Rattle.format.proofs.Found.{conflict, some-inj, method-of-class, own-found, seen-declared}
+use Rattle.jinja.proofs.Options.{conflict, some-inj}
+use Rattle.format.proofs.Found.{method-of-class, own-found, seen-declared}
 use Rattle.format.proofs.Front.{Falls, no-fields, fields-front, sees-front, method-front}
 
 -- a class is built in, or one of the program's own
@@ -143,3 +145,14 @@ module _ (P : Program) (kept : keeps P ≡ true) where
             let N-is : N .method ≡ f .method = ap (λ (o : Owned). o .method) (some-inj (sym e ∙ f .numbered)) in
             rw N-is (rw above at over))
       ]
+
+pub kept-is-well-formed : Kept-is-well-formed
+kept-is-well-formed P kept = record {
+  smaller = smaller P kept;
+  few-fields = few-fields P kept;
+  field-types = field-types P kept;
+  param-types = param-types P kept;
+  result-types = result-types P kept;
+  some-code = some-code P kept;
+  overriding = overriding P kept;
+}

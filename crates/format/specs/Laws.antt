@@ -9,6 +9,7 @@ use Rattle.number.specs.declared.fault.NumberFault.the-variants.{Cut}
 use Rattle.number.specs.Laws.{All-bytes}
 use Rattle.number.specs.Numbers.{most-groups}
 use Rattle.jinja.specs.Program.{Program}
+use Rattle.jinja.specs.WellFormed.{WellFormed}
 use Rattle.format.specs.declared.fault.TableFault.{TableFault}
 use Rattle.format.specs.declared.fault.TableFault.the-variants.{Number}
 use Rattle.format.specs.Faults.{table-fault-number, table-fault-place}
@@ -55,3 +56,7 @@ Faults-stay = (file more : List ℕ) (f : TableFault) → parse file ≡ Err f �
 -- an encoding that breaks off is cut
 abbrev pub Beginnings-are-cut : Type 0
 Beginnings-are-cut = (P : Program) (n : ℕ) → keeps P ≡ true → n < length (encode P) → (p : ℕ) × (parse (take n (encode P)) ≡ Err (Number (Cut p)))
+
+-- a program that keeps the rules has what typing and the machine rest on
+abbrev pub Kept-is-well-formed : Type 0
+Kept-is-well-formed = (P : Program) → keeps P ≡ true → WellFormed P

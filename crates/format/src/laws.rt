@@ -1,5 +1,5 @@
 // The laws of files, each carried by the contract of a function.
-ghost use Rattle.format.specs.Laws.{Written-is-read, Read-was-written, Written-in-bytes, Files-are-encodings, One-program};
+ghost use Rattle.format.specs.Laws.{Written-is-read, Read-was-written, Written-in-bytes, Files-are-encodings, One-program, Kept-is-well-formed};
 ghost use Rattle.format.specs.Laws.{Places-within, Faults-are-first, Faults-stay, Beginnings-are-cut};
 ghost use Rattle.format.specs.Examples.{Examples-stand};
 
@@ -11,6 +11,7 @@ pub fn files_stand() -> u8
     ensures bytes { λ _. ⌜ Written-in-bytes ⌝ }
     ensures exactly { λ _. ⌜ Files-are-encodings ⌝ }
     ensures one { λ _. ⌜ One-program ⌝ }
+    ensures formed { λ _. ⌜ Kept-is-well-formed ⌝ }
 {
     0
 }
