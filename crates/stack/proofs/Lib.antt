@@ -1,0 +1,2 @@
+-- Lemmas of the bounded stack.
+pub mod Held

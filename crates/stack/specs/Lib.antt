@@ -1,0 +1,2 @@
+-- The definitions that the contracts of the bounded stack cite.
+pub mod Stacked
