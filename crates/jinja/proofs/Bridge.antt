@@ -29,7 +29,6 @@ use Rattle.jinja.specs.Handlers.{MayThrow, by-throw, by-invoke, by-getfield, b
 use Rattle.jinja.specs.WellTyping.{Flows, FlowAll, no-more, flow, Caught, Typed}
 use Rattle.jinja.specs.Join.{is-reference}
 use Rattle.jinja.specs.Transfer.{type-le, types-le, cell-type, can-push, send-call, transfer, may-throw, is-relevant, send-handler, send-handlers, sends}
-use Rattle.jinja.specs.TypingLaws.{Sends-by-rules}
 use Rattle.jinja.proofs.Options.{conflict, some-inj, false-true}
 use Rattle.jinja.proofs.Climbs.{below-tested, below-found}
 use Rattle.jinja.proofs.Inheritance.{same-type-is}
@@ -231,10 +230,10 @@ module _ {P : Program} (w : WellFormed P) where
       let b = and-parts _ _ (a .0) in
       record { covers = record { from = leb-true _ _ (b .0); to = ltb-true _ _ (b .1) }; throws = may-throw-found i (a .1) }
 
-  flows-first : {M : Owned} {rows : Table} {p : ℕ} {st : List Ty} {lt : List Cell} {es : List Edge} → FlowAll P M rows (edge p st lt ∷ es) → Flows P M rows p st lt
+  pub flows-first : {M : Owned} {rows : Table} {p : ℕ} {st : List Ty} {lt : List Cell} {es : List Edge} → FlowAll P M rows (edge p st lt ∷ es) → Flows P M rows p st lt
   flows-first (flow f fs) = f
 
-  flows-rest : {M : Owned} {rows : Table} {e : Edge} {es : List Edge} → FlowAll P M rows (e ∷ es) → FlowAll P M rows es
+  pub flows-rest : {M : Owned} {rows : Table} {e : Edge} {es : List Edge} → FlowAll P M rows (e ∷ es) → FlowAll P M rows es
   flows-rest (flow f fs) = fs
 
   flows-both : {M : Owned} {rows : Table} {es fs : List Edge} → FlowAll P M rows es → FlowAll P M rows fs → FlowAll P M rows (es ++ fs)
@@ -275,15 +274,12 @@ module _ {P : Program} (w : WellFormed P) where
     handlers-found {x} es (first {xs = xs}) r e a = handler-found x (send-handlers P M xs i pc st lt) e a .3 (relevant-tested r)
     handlers-found es (later {b = y} {xs = ys} m) r e a = let k = handler-found y (send-handlers P M ys i pc st lt) e a in handlers-found (k .0) m r (k .1) (k .2)
 
-  sent : {M : Owned} {rows : Table} {i : Instr} {pc : ℕ} {st : List Ty} {lt : List Cell} → Typed P M rows i pc st lt → (es : List Edge) × (sends P M i pc (reached st lt) ≡ Some es) × FlowAll P M rows es
+  pub sent : {M : Owned} {rows : Table} {i : Instr} {pc : ℕ} {st : List Ty} {lt : List Cell} → Typed P M rows i pc st lt → (es : List Edge) × (sends P M i pc (reached st lt) ≡ Some es) × FlowAll P M rows es
   sent {M} {i = i} {pc} t = let h = handlers-sent i pc (M .method .handlers) (t .caught) in (t .edges ++ h .0, rw (transfer-complete (t .rule), h .1), flows-both (t .flows) (h .2))
 
-  typed : {M : Owned} {rows : Table} {es : List Edge} (i : Instr) (pc : ℕ) (st : List Ty) (lt : List Cell) → sends P M i pc (reached st lt) ≡ Some es → FlowAll P M rows es → Typed P M rows i pc st lt
+  pub typed : {M : Owned} {rows : Table} {es : List Edge} (i : Instr) (pc : ℕ) (st : List Ty) (lt : List Cell) → sends P M i pc (reached st lt) ≡ Some es → FlowAll P M rows es → Typed P M rows i pc st lt
   typed {M} {rows} i pc st lt e a =
       let t = passed (transfer P M i pc st lt) _ e in
       let h = passed (send-handlers P M (M .method .handlers) i pc st lt) _ (t .2) in
       let p = flows-parts (t .0) (h .0) (subst (FlowAll P M rows) (sym (some-inj (h .2))) a) in
       record { edges = t .0; rule = transfer-sound i pc st lt (t .1); flows = p .0; caught = λ x m r. handlers-found i pc (h .0) m r (h .1) (p .1) }
-
-pub sends-by-rules : Sends-by-rules
-sends-by-rules P w = record { sent = sent w; typed = typed w }

@@ -18,3 +18,5 @@ pub mod Counted
 pub mod Moves
 pub mod History
 pub mod Machine
+pub mod Sends
+pub mod Example

@@ -25,3 +25,4 @@ pub mod Safety
 pub mod History
 pub mod Promise
 pub mod MachineLaws
+pub mod Example

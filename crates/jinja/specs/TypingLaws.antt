@@ -3,6 +3,7 @@ use Prim.Native.Nat.{ℕ, _<_}
 use mathlib.Core.Path.{_≡_}
 use mathlib.Core.List.{List, [], _∷_}
 use lib.ListN.{length}
+use Rattle.std.specs.Finite.{nth}
 use Rattle.std.specs.declared.option.Option.the-variants.{Some, None}
 use Rattle.jinja.specs.declared.ty.Ty.{Ty}
 use Rattle.jinja.specs.declared.instr.Instr.{Instr}
@@ -14,7 +15,7 @@ use Rattle.jinja.specs.WellFormed.{WellFormed}
 use Rattle.jinja.specs.Rows.{Cell, Row, reached, Table, RowOf}
 use Rattle.jinja.specs.Order.{LeAll, LeCells, LeRow}
 use Rattle.jinja.specs.Rule.{Edge, edge, Rule}
-use Rattle.jinja.specs.WellTyping.{FlowAll, Caught, Typed, Least}
+use Rattle.jinja.specs.WellTyping.{FlowAll, Caught, Typed, WellTyping, Least}
 use Rattle.jinja.specs.Join.{nearest, join-row}
 use Rattle.jinja.specs.Transfer.{sends}
 
@@ -61,6 +62,8 @@ pub record Monotone (P : Program) : Type 0 where
 pub record SendsByRules (P : Program) : Type 0 where
   pub sent : {M : Owned} {rows : Table} {i : Instr} {pc : ℕ} {st : List Ty} {lt : List Cell} → Typed P M rows i pc st lt → (es : List Edge) × (sends P M i pc (reached st lt) ≡ Some es) × FlowAll P M rows es
   pub typed : {M : Owned} {rows : Table} {es : List Edge} (i : Instr) (pc : ℕ) (st : List Ty) (lt : List Cell) → sends P M i pc (reached st lt) ≡ Some es → FlowAll P M rows es → Typed P M rows i pc st lt
+  -- what is sent from below a well-typing stays below it
+  pub sent-below : {M : Owned} {rows : Table} {i : Instr} {pc : ℕ} {st : List Ty} {lt : List Cell} → WellTyping P M rows → nth (M .method .code) pc ≡ Some i → LeRow P (reached st lt) (rows pc) → (es : List Edge) × (sends P M i pc (reached st lt) ≡ Some es) × FlowAll P M rows es
 
 abbrev pub Row-order : Type 0
 Row-order = (P : Program) → WellFormed P → RowOrder P

@@ -1,5 +1,6 @@
 // The theorems about the subject. Each function does nothing: its contract is the theorem.
 ghost use Rattle.jinja.specs.ClassLaws.{Class-order, Class-inheritance};
+ghost use Rattle.jinja.specs.Example.{ExampleStands};
 ghost use Rattle.jinja.specs.MachineLaws.{Machine-laws, ValuesWhole};
 ghost use Rattle.jinja.specs.Promise.{Histories-keep};
 ghost use Rattle.jinja.specs.Safety.{Type-safety};
@@ -61,4 +62,9 @@ pub fn machine_laws()
 /// CmpEq holds of two values exactly when they are one.
 pub fn values_compare_whole()
     ensures { λ _. ⌜ ValuesWhole ⌝ }
+{}
+
+/// A small program with a call, a handler, a field and a cast meets every condition of the theorems, and its run computes.
+pub fn example_stands()
+    ensures { λ _. ⌜ ExampleStands ⌝ }
 {}
