@@ -5,17 +5,13 @@ use mathlib.Core.Path.{_≡_, sym, subst, _∙_}
 use lib.ListN.{length, take, drop}
 use native.Mathlib.Omega.{arith}
 use Rattle.std.specs.shelf.Lists.{Every}
-use Rattle.std.proofs.shelf.Lists.{drop-take, take-take, getD-take, getD-drop, length-take}
+use Rattle.std.proofs.shelf.Lists.{getD-take, getD-drop, length-take}
+use Rattle.tables.proofs.Spans.{part-in}
 
 -- `table[f..f + c]`, where the table is filled up to n
 module _ {X : Type 0} (xs : List X) (f c n : ℕ) (within : f + c ≤ n) where
   pub slice-is : take ((f + c) - f) (drop f xs) ≡ take c (drop f (take n xs))
-  slice-is =
-      let k : (f + c) - f ≡ c = omega arith in
-      let e : f + (n - f) ≡ n = omega arith in
-      let d : drop f (take n xs) ≡ take (n - f) (drop f xs) = rw e at (drop-take f (n - f) xs) in
-      let l : c ≤ n - f = omega arith in
-      rw (k, d) (sym (take-take c (n - f) (drop f xs) l))
+  slice-is = let k : (f + c) - f ≡ c = omega arith in rw k (sym (part-in (record { first = f; count = c }) n xs within))
 
   pub slice-few : length (take ((f + c) - f) (drop f xs)) ≤ n
   slice-few = simp length-take (omega arith)

@@ -1,7 +1,7 @@
 // The lists of a file: a count, and then each item.
-ghost use Prim.Native.Nat.{ℕ, _^_, _<_, _≤_};
+ghost use Prim.Native.Nat.{ℕ, _+_, _^_, _<_, _≤_};
 ghost use mathlib.Core.List.{List};
-ghost use lib.ListN.{length, take};
+ghost use lib.ListN.{length, take, drop};
 ghost use Rattle.std.specs.shelf.Lists.{Every};
 ghost use Rattle.number.specs.Puts.{Puts, pen-of};
 ghost use Rattle.format.specs.Encode.{counted-bytes};
@@ -37,9 +37,7 @@ pub(crate) fn put_span<T: Item>(
     requires items { ⌜ Every (T·Item .within (now tables)) (now table) 0 filled ⌝ }
     ensures { λ r. ⌜ Puts r (pen-of (now (pen .entry))) (pen-of (now (pen .exit))) (counted-bytes (T·Item .stands (now (tables .entry))) (part span (take filled (now (table .entry))))) ⌝ }
 {
-    let first = span.first;
-    let end = first + span.count;
-    put_items(pen, tables, &table[first..end])
+    put_range(pen, tables, table, filled, span.first, span.count)
 }
 
 // Puts all that `table` is filled with.
@@ -54,11 +52,25 @@ pub(crate) fn put_filled<T: Item>(
     requires items { ⌜ Every (T·Item .within (now tables)) (now table) 0 filled ⌝ }
     ensures { λ r. ⌜ Puts r (pen-of (now (pen .entry))) (pen-of (now (pen .exit))) (counted-bytes (T·Item .stands (now (tables .entry))) (take filled (now (table .entry)))) ⌝ }
 {
-    let all = Span {
-        first: 0,
-        count: filled,
-    };
-    put_span(pen, tables, table, filled, all)
+    put_range(pen, tables, table, filled, 0, filled)
+}
+
+fn put_range<T: Item>(
+    pen: &mut Pen,
+    tables: &Tables,
+    table: &[T],
+    filled: usize,
+    first: usize,
+    count: usize,
+) -> Result<(), Short>
+    requires few { ⌜ filled < 2 ^ 32 ⌝ }
+    requires whole { ⌜ filled ≤ length (now table) ⌝ }
+    requires range { ⌜ first + count ≤ filled ⌝ }
+    requires items { ⌜ Every (T·Item .within (now tables)) (now table) 0 filled ⌝ }
+    ensures { λ r. ⌜ Puts r (pen-of (now (pen .entry))) (pen-of (now (pen .exit))) (counted-bytes (T·Item .stands (now (tables .entry))) (take count (drop first (take filled (now (table .entry)))))) ⌝ }
+{
+    let end = first + count;
+    put_items(pen, tables, &table[first..end])
 }
 
 fn put_items<T: Item>(pen: &mut Pen, tables: &Tables, items: &[T]) -> Result<(), Short>
