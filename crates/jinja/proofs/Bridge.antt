@@ -1,16 +1,14 @@
 -- The function that runs follows the rules, and the other way round. Assumes nothing.
-use Prim.Native.Nat.{ℕ, zero, suc, _≤_, _<_}
+use Prim.Native.Nat.{ℕ, suc}
 use mathlib.Core.Path.{_≡_, refl, sym, ap, subst, _∙_}
 use mathlib.Core.Bool.{Bool, true, false, cond, _&&_, _||_}
 use mathlib.Core.List.{List, [], _∷_, _++_}
 use mathlib.Core.Logic.{⊎-elim}
-use native.Mathlib.Omega.{arith}
 use lib.Dec.{ltb, leb}
-use lib.ListN.{length, set}
-use Rattle.std.specs.Finite.{nth}
+use lib.ListN.{length}
 use Rattle.std.specs.declared.option.Option.{Option}
 use Rattle.std.specs.declared.option.Option.the-variants.{Some, None}
-use Rattle.std.proofs.shelf.Tests.{lt-ltb, le-leb, eq-eqb, ltb-true, leb-true, and-parts, and-from, or-cases, or-left, or-right}
+use Rattle.std.proofs.shelf.Tests.{lt-ltb, le-leb, eq-eqb, ltb-true, leb-true, and-parts, and-from, or-cases, or-right}
 use Rattle.jinja.specs.declared.ty.Ty.{Ty}
 use Rattle.jinja.specs.declared.ty.Ty.the-variants.{Void, Boolean, Integer, NullType, Class}
 use Rattle.jinja.specs.declared.instr.Instr.{Instr}
@@ -23,16 +21,15 @@ use Rattle.jinja.specs.Classes.{is-class}
 use Rattle.jinja.specs.Lookups.{Owned}
 use Rattle.jinja.specs.WellFormed.{WellFormed}
 use Rattle.jinja.specs.Rows.{Cell, usable, unusable, Table, reached}
-use Rattle.jinja.specs.Order.{Pairwise, nil, cons, Le, void, boolean, integer, null, null-class, subclass, Reference, null-reference, class-reference, LeAll}
+use Rattle.jinja.specs.Order.{nil, cons, Le, void, boolean, integer, null, null-class, subclass, Reference, null-reference, class-reference, LeAll}
 use Rattle.jinja.specs.Rule.{Operands, operands, operands-of, jump, Edge, edge, next, Rule, load, store, push, pop, new, getfield, putfield, checkcast, invoke, invoke-null, return, iadd, cmpeq, cmpeq-references, iffalse, goto, throw}
-use Rattle.jinja.specs.Handlers.{MayThrow, by-throw, by-invoke, by-getfield, by-putfield, by-checkcast, by-new, Covers, Relevant, lowest, In, first, later}
+use Rattle.jinja.specs.Handlers.{MayThrow, by-throw, by-invoke, by-getfield, by-putfield, by-checkcast, by-new, Relevant, lowest, In, first, later}
 use Rattle.jinja.specs.WellTyping.{Flows, FlowAll, no-more, flow, Caught, Typed}
 use Rattle.jinja.specs.Join.{is-reference}
-use Rattle.jinja.specs.Transfer.{type-le, types-le, cell-type, can-push, send-call, transfer, may-throw, is-relevant, send-handler, send-handlers, sends}
+use Rattle.jinja.specs.Transfer.{type-le, types-le, cell-type, send-call, transfer, may-throw, is-relevant, send-handler, send-handlers, sends}
 use Rattle.jinja.proofs.Options.{conflict, some-inj, false-true}
 use Rattle.jinja.proofs.Climbs.{below-tested, below-found}
 use Rattle.jinja.proofs.Inheritance.{same-type-is}
-use Rattle.jinja.proofs.Pairwise.{pairs-length}
 
 -- what a look-up and a test that were passed say
 pub passed : {A B : Type 0} (o : Option A) (f : A → Option B) {b : B} → (o >>= f) ≡ Some b → (a : A) × (o ≡ Some a) × (f a ≡ Some b)

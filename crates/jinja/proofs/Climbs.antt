@@ -4,12 +4,11 @@ use mathlib.Core.Path.{_≡_, refl, sym, ap, subst, _∙_}
 use mathlib.Core.Bool.{Bool, true, false, cond}
 use mathlib.Core.Logic.{⊎-elim}
 use native.Mathlib.Omega.{arith}
-use lib.Dec.{eqb, ltb}
-use lib.ListN.{length}
+use lib.Dec.{eqb}
 use Rattle.std.proofs.shelf.Tests.{lt-ltb, ltb-true, eq-eqb, eqb-true, cases-lt, and-parts, and-from}
 use Rattle.jinja.specs.Program.{Program}
-use Rattle.jinja.specs.Classes.{table, IsClass, is-class, superclass-of, AtOrBelow, here, up, climbs, at-or-below}
-use Rattle.jinja.specs.ClassLaws.{ClassOrder, Class-order}
+use Rattle.jinja.specs.Classes.{IsClass, superclass-of, AtOrBelow, here, up, climbs, at-or-below}
+use Rattle.jinja.specs.ClassLaws.{Class-order}
 use Rattle.jinja.specs.WellFormed.{WellFormed}
 
 pub object-root : (P : Program) → superclass-of P 0 ≡ 0

@@ -1,20 +1,20 @@
 -- The heap holds the objects made, and each line's use is their cost. Assumes nothing.
-use Prim.Native.Nat.{ℕ, zero, suc, _+_, _≤_, _<_}
+use Prim.Native.Nat.{ℕ, zero, suc, _+_, _≤_}
 use mathlib.Core.Path.{_≡_, refl, sym, ap, subst, _∙_}
-use mathlib.Core.Bool.{Bool, true, false, cond, _&&_}
+use mathlib.Core.Bool.{true, _&&_}
 use mathlib.Core.List.{List, [], _∷_, _++_}
 use native.Mathlib.Omega.{arith}
 use lib.Dec.{leb}
 use lib.ListN.{length, set}
 use Rattle.std.specs.Finite.{nth}
-use Rattle.std.specs.declared.option.Option.the-variants.{Some, None}
+use Rattle.std.specs.declared.option.Option.the-variants.{Some}
 use Rattle.std.proofs.shelf.Lists.{length-set}
 use Rattle.std.proofs.shelf.Sums.{sumBy-cons, sumBy-push}
 use Rattle.std.proofs.shelf.Tests.{le-leb, leb-true, and-parts}
 use Rattle.heap.specs.declared.value.Value.{Value}
 use Rattle.heap.specs.declared.charge.ChargeLine.{ChargeLine}
 use Rattle.heap.specs.Meaning.{Object, Meaning, row-limit, cost, used, has-room, admits}
-use Rattle.heap.specs.Calls.{with-object, with-objects, with-field, with-value, after-empty}
+use Rattle.heap.specs.Calls.{with-object, with-field, with-value, after-empty}
 use Rattle.jinja.specs.Program.{Program}
 use Rattle.jinja.specs.Lookups.{fields-of}
 use Rattle.jinja.specs.WellFormed.{WellFormed}

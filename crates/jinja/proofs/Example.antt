@@ -1,14 +1,12 @@
 -- The example keeps the rules, its rows are the least well-typings, and its run computes. Assumes nothing.
-use Prim.Native.Nat.{ℕ, zero, suc, _+_, _<_, _≤_}
-use mathlib.Core.Path.{_≡_, refl, sym, ap, subst, _∙_}
-use mathlib.Core.Bool.{true}
-use mathlib.Core.List.{List, [], _∷_, _++_}
+use Prim.Native.Nat.{ℕ, zero, suc, _<_, _≤_}
+use mathlib.Core.Path.{_≡_, refl, sym, subst, _∙_}
+use mathlib.Core.List.{List, [], _∷_}
 use native.Mathlib.Omega.{arith}
 use lib.ListN.{length}
 use lib.IntN.{pos}
 use Rattle.std.specs.Finite.{nth}
 use Rattle.std.specs.shelf.Signed.{wrapped}
-use Rattle.std.specs.declared.option.Option.{Option}
 use Rattle.std.specs.declared.option.Option.the-variants.{Some, None}
 use Rattle.jinja.specs.declared.ty.Ty.{Ty}
 use Rattle.jinja.specs.declared.ty.Ty.the-variants.{Integer, Class}
@@ -16,11 +14,11 @@ use Rattle.jinja.specs.declared.instr.Literal.the-variants as literal
 use Rattle.jinja.specs.declared.instr.Instr.{Instr}
 use Rattle.jinja.specs.declared.instr.Instr.the-variants.{Load, Push, Pop, Getfield, Checkcast, Invoke, Return}
 use Rattle.jinja.specs.declared.program.Field.{Field}
-use Rattle.jinja.specs.Program.{MethodDecl, ClassDecl, Program}
-use Rattle.jinja.specs.Classes.{IsClass, superclass-of, at-or-below}
-use Rattle.jinja.specs.Lookups.{Owned, own-fields, fields-within, fields-of, own-field, method-at, own-method, sees, overrides}
+use Rattle.jinja.specs.Program.{MethodDecl}
+use Rattle.jinja.specs.Classes.{superclass-of, at-or-below}
+use Rattle.jinja.specs.Lookups.{Owned, own-fields, fields-within, fields-of, own-field, method-at, own-method, sees}
 use Rattle.jinja.specs.WellFormed.{TypeExists, WellFormed}
-use Rattle.jinja.specs.Rows.{Cell, usable, Row, unreached, reached, Table, RowOf, row}
+use Rattle.jinja.specs.Rows.{Cell, usable, reached, Table, RowOf, row}
 use Rattle.jinja.specs.Order.{LeRow}
 use Rattle.jinja.specs.Rule.{Edge, edge}
 use Rattle.jinja.specs.WellTyping.{Flows, FlowAll, no-more, flow, Typed, WellTyping, Least, LeTable, LeastTypings}
@@ -29,7 +27,6 @@ use Rattle.jinja.specs.Values.{class-of, fits}
 use Rattle.jinja.specs.Step.{catches}
 use Rattle.jinja.specs.Example.{outer, inner, example, outer-rows, inner-rows, example-rows, ExampleStands}
 use Rattle.jinja.proofs.Options.{conflict, some-inj}
-use Rattle.jinja.proofs.Climbs.{object-root}
 use Rattle.jinja.proofs.Order.{row-refl}
 use Rattle.jinja.proofs.Bridge.{typed, flows-first, flows-rest}
 use Rattle.jinja.proofs.Sends.{sent-below}
@@ -241,11 +238,12 @@ least (suc zero) M e = subst (λ M. Least example M inner-rows) (some-inj e) (re
 least (suc (suc k)) M e = absurd (conflict e)
 
 pub example-stands : ExampleStands
-unfolding superclass-of at-or-below sees own-method method-at own-field fields-of class-of fits catches
+unfolding superclass-of at-or-below sees own-method method-at own-field fields-of class-of fits catches wrapped
 example-stands = record {
   well-formed = well-formed;
   typed = least;
   promise = histories-keep example well-formed example-rows least;
   answers = refl;
   makes = refl;
+  wraps = refl;
 }

@@ -1,18 +1,18 @@
 -- The types of fields, parameters and results exist, and overriding methods take and give what inherited ones do. Assumes nothing.
 use Prim.Native.Nat.{ℕ, zero, suc}
-use mathlib.Core.Path.{_≡_, refl, sym, ap, subst, _∙_}
+use mathlib.Core.Path.{_≡_, refl, ap, subst}
 use mathlib.Core.Bool.{true}
-use mathlib.Core.List.{List, [], _∷_, _++_}
+use mathlib.Core.List.{List, [], _∷_}
 use Rattle.std.specs.Finite.{nth}
 use Rattle.std.specs.shelf.Lists.{All}
-use Rattle.std.specs.declared.option.Option.the-variants.{Some, None}
+use Rattle.std.specs.declared.option.Option.the-variants.{Some}
 use Rattle.std.proofs.shelf.Elements.{all-append}
 use Rattle.jinja.specs.declared.ty.Ty.{Ty}
 use Rattle.jinja.specs.declared.program.Field.{Field}
 use Rattle.jinja.specs.declared.program.FieldPlace.{FieldPlace}
 use Rattle.jinja.specs.Program.{MethodDecl, Program}
 use Rattle.jinja.specs.Classes.{superclass-of}
-use Rattle.jinja.specs.Lookups.{position, Owned, own-fields, fields-within, fields-of, own-field, method-at, overrides}
+use Rattle.jinja.specs.Lookups.{position, own-fields, fields-within, fields-of, own-field, overrides}
 use Rattle.jinja.specs.WellFormed.{TypeExists, WellFormed}
 use Rattle.jinja.specs.Order.{Le, LeAll}
 use Rattle.jinja.proofs.Options.{some-inj, maybe-found}
@@ -41,9 +41,6 @@ module _ {P : Program} (w : WellFormed P) where
   pub fields-exist : (c : ℕ) → All (λ (f : Field). TypeExists P (f .ty)) (fields-of P c)
   unfolding fields-of
   fields-exist c = within-exist c c
-
-  pub params-exist : {N : Owned} (k : ℕ) → method-at P k ≡ Some N → All (TypeExists P) (N .method .params)
-  params-exist k e = all-from-nth _ _ (λ i t q. w .param-types k i e q)
 
 module _ {P : Program} where
   pub overrides-takes : (l m : MethodDecl) {ts : List Ty} → overrides l m ≡ true → LeAll P ts (m .params) → LeAll P ts (l .params)

@@ -1,35 +1,25 @@
 -- What a step from a state that fits comes to: never a failed check. Assumes nothing.
-use Prim.Native.Nat.{ℕ, zero, suc, _≤_, _<_}
-use mathlib.Core.Path.{_≡_, refl, sym, ap, subst, _∙_}
+use Prim.Native.Nat.{ℕ}
+use mathlib.Core.Path.{_≡_, refl, sym, subst}
 use mathlib.Core.Bool.{Bool, true, false, cond}
-use mathlib.Core.List.{List, [], _∷_}
-use native.Mathlib.Omega.{arith}
-use lib.ListN.{length}
-use Rattle.std.specs.Finite.{nth}
+use mathlib.Core.List.{List}
 use Rattle.std.specs.declared.option.Option.{Option}
-use Rattle.std.specs.declared.option.Option.the-variants.{Some, None}
-use Rattle.std.proofs.shelf.Tests.{lt-ltb, le-leb, ltb-true, leb-true, and-parts}
+use Rattle.std.specs.declared.option.Option.the-variants.{Some}
 use Rattle.heap.specs.declared.value.Value.{Value}
 use Rattle.heap.specs.declared.value.Value.the-variants as value
 use Rattle.heap.specs.Meaning.{Meaning}
 use Rattle.jinja.specs.declared.ty.Ty.{Ty}
 use Rattle.jinja.specs.declared.ty.Ty.the-variants.{Class}
-use Rattle.jinja.specs.declared.program.Handler.{Handler}
 use Rattle.jinja.specs.Options.{_>>=_, _>>_}
 use Rattle.jinja.specs.Program.{Program}
-use Rattle.jinja.specs.Classes.{AtOrBelow, at-or-below}
+use Rattle.jinja.specs.Classes.{AtOrBelow}
 use Rattle.jinja.specs.Lookups.{Owned, method-at}
-use Rattle.jinja.specs.WellFormed.{WellFormed}
 use Rattle.jinja.specs.Rows.{Cell, Row, unreached, reached, Table}
-use Rattle.jinja.specs.Order.{Pairwise, nil, cons, LeRow, le-reached}
-use Rattle.jinja.specs.Handlers.{by-invoke, Covers, lowest, In, first, later}
-use Rattle.jinja.specs.WellTyping.{Flows, Caught, WellTypings}
+use Rattle.jinja.specs.Order.{LeRow, le-reached}
+use Rattle.jinja.specs.WellTyping.{Flows}
 use Rattle.jinja.specs.Values.{class-of}
-use Rattle.jinja.specs.Step.{Frame, at-place, Next, goes, returned, threw, frames-full, catches, catcher, catch, unwind, raise, on-reference, going}
-use Rattle.jinja.specs.Fits.{Fits, null-fits-class, address-fits, FitAll, FitCells, ObjectsFit, Exceptions, FrameFits, Waits, Below, bottom, caller, Stand, stand}
-use Rattle.jinja.proofs.Options.{conflict, some-inj}
-use Rattle.jinja.proofs.Climbs.{below-found}
-use Rattle.jinja.proofs.Pairwise.{pairs-length, pairs-lowest}
+use Rattle.jinja.specs.Step.{Frame, Next, goes, returned, threw, frames-full, on-reference}
+use Rattle.jinja.specs.Fits.{Fits, null-fits-class, address-fits, FitAll, FitCells, ObjectsFit, Exceptions, FrameFits, Waits, Below, bottom, caller, Stand}
 use Rattle.jinja.proofs.Values.{Grows, all-up, cells-up, all-grow, cells-grow}
 
 module _ (P : Program) (Φ : ℕ → Table) (h : Meaning) (b : ℕ) where

@@ -1,6 +1,6 @@
 -- The promise about histories: each call keeps it. Assumes nothing.
-use Prim.Native.Nat.{ℕ, zero, suc, _+_, _≤_}
-use mathlib.Core.Path.{_≡_, refl, sym, ap, subst, subst⁻¹, _∙_}
+use Prim.Native.Nat.{ℕ, zero, suc}
+use mathlib.Core.Path.{_≡_, refl, subst, subst⁻¹}
 use mathlib.Core.Bool.{Bool, true, false, cond}
 use mathlib.Core.List.{List, [], _∷_, _++_}
 use native.Mathlib.Omega.{arith}
@@ -17,7 +17,7 @@ use Rattle.std.proofs.shelf.Tests.{cond-both}
 use Rattle.heap.specs.declared.value.Value.{Value}
 use Rattle.heap.specs.declared.charge.ChargeLine.{ChargeLine}
 use Rattle.heap.specs.Meaning.{Meaning, admits}
-use Rattle.heap.specs.Calls.{with-object, after-empty}
+use Rattle.heap.specs.Calls.{after-empty}
 use Rattle.jinja.specs.declared.instr.Instr.{Instr}
 use Rattle.jinja.specs.declared.answer.Answer.{Answer}
 use Rattle.jinja.specs.declared.answer.Answer.the-variants as answer
@@ -38,17 +38,16 @@ use Rattle.jinja.specs.Rows.{Table}
 use Rattle.jinja.specs.Handlers.{null-pointer, class-cast, out-of-memory}
 use Rattle.jinja.specs.WellTyping.{WellTypings}
 use Rattle.jinja.specs.Values.{fit-all, start-row}
-use Rattle.jinja.specs.Step.{Frame, Next, goes, returned, threw, frames-full, exec, next-step}
+use Rattle.jinja.specs.Step.{Frame, Next, exec, next-step}
 use Rattle.jinja.specs.State.{State, made, settled, step-in, step, run-on, run}
-use Rattle.jinja.specs.Calls.{begun, emptied, add-object, first-objects, begin-with, begin-seen, begin-in, begin, unless-idle, step-call, run-call, end-with, end-in, end, Call, begins, steps, runs, ends, perform}
+use Rattle.jinja.specs.Calls.{begun, emptied, add-object, first-objects, begin-with, begin-seen, begin-in, unless-idle, end-in, Call, begins, steps, runs, ends, perform}
 use Rattle.jinja.specs.Fits.{PhaseFits, idle-fits, running-fits, finished-fits, uncaught-fits, StateFits}
-use Rattle.jinja.specs.Safety.{TypeSafe}
 use Rattle.jinja.specs.History.{if-stepped, if-awake, Event, after, run-answers, call-answers, step-answers, instr-at, step-events, run-events, begin-events, call-events, events, objects-made}
 use Rattle.jinja.specs.History.{empties, opens, does}
-use Rattle.jinja.specs.Promise.{FramesFit, no-frames, frames-stand, Promise, Histories-keep}
+use Rattle.jinja.specs.Promise.{FramesFit, no-frames, frames-stand, Histories-keep}
 use Rattle.jinja.proofs.Options.{conflict, some-inj}
 use Rattle.jinja.proofs.Bridge.{passed, tested}
-use Rattle.jinja.proofs.Safety.{Kept, step-kept, type-safety}
+use Rattle.jinja.proofs.Safety.{step-kept, type-safety}
 use Rattle.jinja.proofs.Counted.{Counted, used-is, counted-empty, counted-add}
 use Rattle.jinja.proofs.Moves.{After, moves, returns, throws, fills, exec-after}
 

@@ -1,11 +1,11 @@
 -- A class has the fields and sees the methods of the classes above it. Assumes nothing.
-use Prim.Native.Nat.{ℕ, zero, suc, _+_, _≤_, _<_}
+use Prim.Native.Nat.{ℕ, zero, suc, _+_, _≤_}
 use mathlib.Core.Path.{_≡_, refl, sym, ap, subst, _∙_}
 use mathlib.Core.Bool.{Bool, true, false, cond}
 use mathlib.Core.List.{List, [], _∷_, _++_, map}
 use mathlib.Core.Logic.{⊎-elim}
 use native.Mathlib.Omega.{arith}
-use native.Mathlib.Nat.{zero-add, add-zero, suc-add}
+use native.Mathlib.Nat.{zero-add, add-zero}
 use lib.Dec.{eqb}
 use lib.ListN.{length, take}
 use Rattle.std.specs.Finite.{nth}
@@ -21,10 +21,10 @@ use Rattle.jinja.specs.Program.{MethodDecl, ClassDecl, Program}
 use Rattle.jinja.specs.Types.{type-number, type-of-number, same-type, same-types}
 use Rattle.jinja.specs.Classes.{maybe, table, class-at, IsClass, superclass-of, AtOrBelow, here, up}
 use Rattle.jinja.specs.Lookups.{position, own-fields, own-methods, fields-within, fields-of, own-field, Owned, methods-from, method-at, count-methods, own-method, sees-within, sees, overrides}
-use Rattle.jinja.specs.ClassLaws.{StandsIn, Inheritance, Class-inheritance}
+use Rattle.jinja.specs.ClassLaws.{StandsIn, Class-inheritance}
 use Rattle.jinja.specs.WellFormed.{WellFormed}
-use Rattle.jinja.proofs.Options.{conflict, some-inj, false-true, maybe-found, nth-inside, nth-below, nth-front, nth-back, nth-map, map-length}
-use Rattle.jinja.proofs.Climbs.{object-root, lower-exists, falls-to, super-exists, climb}
+use Rattle.jinja.proofs.Options.{conflict, some-inj, false-true, maybe-found, nth-below, nth-front, nth-back, nth-map, map-length}
+use Rattle.jinja.proofs.Climbs.{object-root, falls-to, climb}
 
 -- an item that was found by its name
 position-found : {A : Type 0} (name : A → ℕ) (n : ℕ) (xs : List A) {i : ℕ} → position name n xs ≡ Some i → (x : A) × (nth xs i ≡ Some x)

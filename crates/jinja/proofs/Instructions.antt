@@ -1,49 +1,42 @@
 -- Each instruction, from a frame that fits: no check fails, and what comes fits. Assumes nothing.
-use Prim.Native.Nat.{ℕ, zero, suc, _<_}
-use mathlib.Core.Path.{_≡_, refl, sym, ap, subst, _∙_}
-use mathlib.Core.Bool.{Bool, true, false, cond}
-use mathlib.Core.List.{List, [], _∷_, map}
+use Prim.Native.Nat.{ℕ, suc}
+use mathlib.Core.Path.{_≡_, ap, _∙_}
+use mathlib.Core.List.{List, _∷_}
 use native.Mathlib.Omega.{arith}
-use lib.ListN.{length, set}
+use lib.ListN.{length}
 use lib.IntN.{ℤ}
 use Rattle.std.specs.Finite.{nth}
-use Rattle.std.specs.declared.option.Option.{Option}
-use Rattle.std.specs.declared.option.Option.the-variants.{Some, None}
+use Rattle.std.specs.declared.option.Option.the-variants.{Some}
 use Rattle.std.proofs.shelf.Tests.{lt-ltb, cond-both}
 use Rattle.heap.specs.declared.value.Value.{Value}
-use Rattle.heap.specs.declared.value.Value.the-variants as value
-use Rattle.heap.specs.Meaning.{Object, Meaning, admits}
-use Rattle.heap.specs.Calls.{with-object, with-value}
+use Rattle.heap.specs.Meaning.{Meaning, admits}
 use Rattle.jinja.specs.declared.ty.Ty.{Ty}
-use Rattle.jinja.specs.declared.ty.Ty.the-variants.{Void, Boolean, Integer, NullType, Class}
 use Rattle.jinja.specs.declared.instr.Literal.{Literal}
 use Rattle.jinja.specs.declared.instr.Instr.{Instr}
-use Rattle.jinja.specs.declared.instr.Instr.the-variants.{Load, Store, Push, Pop, New, Getfield, Putfield, Checkcast, Invoke, Return, IAdd, CmpEq, IfFalse, Goto, Throw}
+use Rattle.jinja.specs.declared.instr.Instr.the-variants.{Load, Store, Push, Pop, New, Getfield, Putfield, Checkcast, IAdd, CmpEq, IfFalse, Goto, Throw}
 use Rattle.jinja.specs.declared.program.Field.{Field}
 use Rattle.jinja.specs.declared.program.FieldPlace.{FieldPlace}
 use Rattle.jinja.specs.declared.program.Handler.{Handler}
-use Rattle.jinja.specs.Options.{_>>=_, _>>_}
 use Rattle.jinja.specs.Program.{Program}
 use Rattle.jinja.specs.Classes.{AtOrBelow, here, at-or-below}
-use Rattle.jinja.specs.ClassLaws.{Inheritance}
 use Rattle.jinja.specs.Lookups.{Owned, own-field, method-at}
 use Rattle.jinja.specs.WellFormed.{WellFormed}
 use Rattle.jinja.specs.Rows.{Cell, usable, Table}
-use Rattle.jinja.specs.Order.{Pairwise, nil, cons, Le, Reference, null-reference, class-reference}
+use Rattle.jinja.specs.Order.{cons, null-reference, class-reference}
 use Rattle.jinja.specs.Rule.{Edge, Rule, load, store, push, pop, new, getfield, putfield, checkcast, iadd, cmpeq, cmpeq-references, iffalse, goto, throw}
 use Rattle.jinja.specs.Handlers.{MayThrow, by-throw, by-getfield, by-putfield, by-checkcast, by-new, Relevant, In}
 use Rattle.jinja.specs.WellTyping.{Flows, FlowAll, no-more, flow, Caught, WellTypings}
 use Rattle.jinja.specs.Values.{class-of, start-row}
-use Rattle.jinja.specs.Step.{Frame, null-pointer-at, class-cast-at, out-of-memory-at, at-place, going, Next, goes, raise, make, cast, exec}
-use Rattle.jinja.specs.Fits.{Fits, unit-fits, null-fits, null-fits-class, boolean-fits, integer-fits, address-fits, FitAll, FitsCell, fits-usable, FitCells, field-types, ObjectFits, ObjectsFit, Exceptions, FrameFits, Below, Stand, stand}
+use Rattle.jinja.specs.Step.{Frame, null-pointer-at, class-cast-at, out-of-memory-at, goes, raise, exec}
+use Rattle.jinja.specs.Fits.{Fits, null-fits, null-fits-class, boolean-fits, integer-fits, address-fits, FitAll, FitsCell, fits-usable, FitCells, field-types, ObjectsFit, Exceptions, Below, stand}
 use Rattle.jinja.proofs.Options.{nth-map, nth-below}
 use Rattle.jinja.proofs.Climbs.{below-tested, below-found}
 use Rattle.jinja.proofs.Inheritance.{inheritance}
 use Rattle.jinja.proofs.Pairwise.{pairs-length, shorter, pairs-nth, pairs-set}
-use Rattle.jinja.proofs.Values.{Grows, fit-up, all-grow, cells-grow, fit-grow, literal-fits, fits-tested}
-use Rattle.jinja.proofs.Objects.{class-object, object-class, grows-add, class-new, grows-write, exceptions-grow, objects-written, objects-added}
+use Rattle.jinja.proofs.Values.{fit-up, all-grow, cells-grow, literal-fits, fits-tested}
+use Rattle.jinja.proofs.Objects.{class-object, grows-add, class-new, grows-write, exceptions-grow, objects-written, objects-added}
 use Rattle.jinja.proofs.Good.{Good, good-goes, Now, bind, guard, either, deref, frame-at, below-grow}
-use Rattle.jinja.proofs.Unwind.{Catching, raise-good}
+use Rattle.jinja.proofs.Unwind.{raise-good}
 
 abbrev pub frame : ℕ → ℕ → List Value → List Value → Frame
 frame k pc stk regs = record { method = k; pc = pc; stack = stk; registers = regs }

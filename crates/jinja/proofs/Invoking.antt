@@ -1,14 +1,13 @@
 -- Invoke opens a frame that fits, and Return goes on in one that waits for it. Assumes nothing.
-use Prim.Native.Nat.{ℕ, zero, suc, _+_, _<_}
-use mathlib.Core.Path.{_≡_, refl, sym, ap, subst, _∙_}
-use mathlib.Core.Bool.{true, cond}
+use Prim.Native.Nat.{ℕ, suc}
+use mathlib.Core.Path.{_≡_, sym, ap, subst, _∙_}
 use mathlib.Core.List.{List, [], _∷_}
 use native.Mathlib.Omega.{arith}
 use lib.Dec.{ltb}
 use lib.ListN.{length}
 use Rattle.std.specs.Finite.{nth}
 use Rattle.std.specs.declared.option.Option.{Option}
-use Rattle.std.specs.declared.option.Option.the-variants.{Some, None}
+use Rattle.std.specs.declared.option.Option.the-variants.{Some}
 use Rattle.std.proofs.shelf.Tests.{lt-ltb}
 use Rattle.heap.specs.declared.value.Value.{Value}
 use Rattle.heap.specs.declared.value.Value.the-variants as value
@@ -18,17 +17,16 @@ use Rattle.jinja.specs.declared.ty.Ty.the-variants.{NullType, Class}
 use Rattle.jinja.specs.declared.instr.Instr.the-variants.{Invoke, Return}
 use Rattle.jinja.specs.Program.{Program}
 use Rattle.jinja.specs.Classes.{AtOrBelow}
-use Rattle.jinja.specs.ClassLaws.{StandsIn, Inheritance}
 use Rattle.jinja.specs.Lookups.{Owned, method-at, sees}
 use Rattle.jinja.specs.WellFormed.{WellFormed}
-use Rattle.jinja.specs.Rows.{Cell, Table, usable, first-registers}
-use Rattle.jinja.specs.Order.{Pairwise, nil, cons, Le, LeAll}
+use Rattle.jinja.specs.Rows.{Cell, Table, first-registers}
+use Rattle.jinja.specs.Order.{nil, cons, Le}
 use Rattle.jinja.specs.Rule.{operands, operands-of, CanPush, Edge, Rule, invoke, invoke-null, return}
 use Rattle.jinja.specs.Handlers.{by-invoke}
-use Rattle.jinja.specs.WellTyping.{Flows, FlowAll, no-more, flow, WellTyping, WellTypings}
+use Rattle.jinja.specs.WellTyping.{Flows, FlowAll, no-more, flow, WellTypings}
 use Rattle.jinja.specs.Values.{class-of}
 use Rattle.jinja.specs.Step.{Frame, null-pointer-at, frame-limit, opened, Next, on-reference, raise, return-to, exec}
-use Rattle.jinja.specs.Fits.{Fits, null-fits, address-fits, FitAll, fits-usable, FitCells, ObjectsFit, Exceptions, FrameFits, Waits, Below, bottom, caller, Stand, stand}
+use Rattle.jinja.specs.Fits.{Fits, null-fits, address-fits, FitAll, fits-usable, ObjectsFit, Exceptions, FrameFits, Below, bottom, caller, stand}
 use Rattle.jinja.proofs.Options.{some-inj}
 use Rattle.jinja.proofs.Inheritance.{inheritance}
 use Rattle.jinja.proofs.Existing.{overrides-takes, overrides-gives}

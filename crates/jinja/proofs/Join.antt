@@ -1,6 +1,6 @@
 -- The join is the least upper bound, and is there wherever there is an upper bound. Assumes nothing.
 use Prim.Native.Nat.{ℕ, zero, suc, _+_, _≤_, _<_}
-use mathlib.Core.Path.{_≡_, refl, sym, ap, subst, _∙_}
+use mathlib.Core.Path.{_≡_, refl, sym, subst, _∙_}
 use mathlib.Core.Bool.{Bool, true, false, cond}
 use mathlib.Core.List.{List, [], _∷_}
 use mathlib.Core.Logic.{⊎-elim}
@@ -12,14 +12,13 @@ use Rattle.std.specs.declared.option.Option.the-variants.{Some, None}
 use Rattle.std.proofs.shelf.Tests.{eqb-true, eqb-false, ltb-true, ltb-false, cases-lt}
 use Rattle.jinja.specs.declared.ty.Ty.{Ty}
 use Rattle.jinja.specs.declared.ty.Ty.the-variants.{Void, Boolean, Integer, NullType, Class}
-use Rattle.jinja.specs.Options.{_>>=_, _>>_}
 use Rattle.jinja.specs.Program.{Program}
 use Rattle.jinja.specs.Types.{same-type}
 use Rattle.jinja.specs.Classes.{maybe, IsClass, superclass-of, AtOrBelow, here, up}
 use Rattle.jinja.specs.Lookups.{Owned}
 use Rattle.jinja.specs.WellFormed.{TypeExists, WellFormed}
-use Rattle.jinja.specs.Rows.{Cell, usable, unusable, Row, unreached, reached, CellExists, RowOf, no-row, row}
-use Rattle.jinja.specs.Order.{Pairwise, nil, cons, Le, void, boolean, integer, null, null-class, subclass, LeAll, LeCell, le-usable, le-unusable, LeCells, LeRow, le-unreached, le-reached}
+use Rattle.jinja.specs.Rows.{Cell, usable, unusable, Row, unreached, reached, CellExists, RowOf, row}
+use Rattle.jinja.specs.Order.{nil, cons, Le, void, boolean, integer, null, null-class, subclass, LeAll, LeCell, le-usable, le-unusable, LeCells, LeRow, le-unreached, le-reached}
 use Rattle.jinja.specs.Join.{meet-within, nearest, is-reference, join-type, join-stack, join-cell, join-cells, join-row}
 use Rattle.jinja.specs.TypingLaws.{NearestCommon, Lub, Join-laws}
 use Rattle.jinja.proofs.Options.{conflict, some-inj, false-true}

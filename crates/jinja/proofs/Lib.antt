@@ -1,3 +1,4 @@
+-- The theorems about the subject: classes, typing, the machine, and histories.
 pub mod Options
 pub mod Climbs
 pub mod Inheritance
@@ -20,3 +21,5 @@ pub mod History
 pub mod Machine
 pub mod Sends
 pub mod Example
+pub mod HeapAnswers
+pub mod Look

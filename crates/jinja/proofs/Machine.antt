@@ -1,8 +1,8 @@
 -- The laws of runs, refusals and ends. Assumes nothing.
-use Prim.Native.Nat.{ℕ, zero, suc, _+_, _-_, _^_, _≤_, min}
-use mathlib.Core.Path.{_≡_, refl, sym, ap, subst, subst⁻¹, _∙_}
-use mathlib.Core.Bool.{Bool, true, false, cond, not}
-use mathlib.Core.List.{List, [], _∷_}
+use Prim.Native.Nat.{ℕ, zero, suc, _+_, _≤_, min}
+use mathlib.Core.Path.{_≡_, refl, sym, ap, subst⁻¹, _∙_}
+use mathlib.Core.Bool.{Bool, true, false, cond}
+use mathlib.Core.List.{List}
 use native.Mathlib.Omega.{arith}
 use native.Mathlib.Nat.{zero-add, suc-add}
 use lib.Dec.{eqb}
@@ -33,7 +33,7 @@ use Rattle.jinja.specs.Values.{same-boolean, same-integer, same-value, fit-all
 use Rattle.jinja.specs.Step.{Next, goes, returned, threw, frames-full, next-step}
 use Rattle.jinja.specs.State.{State, most-steps, settled, step-in, step, run-on, run}
 use Rattle.jinja.specs.Calls.{begun, emptied, first-objects, begin-with, begin-seen, begin-in, begin, unless-idle, end-with, end-in, end, Call, begins, steps, runs, ends, replied, perform}
-use Rattle.jinja.specs.MachineLaws.{and-then, MachineLaws, Machine-laws, ValuesWhole}
+use Rattle.jinja.specs.MachineLaws.{and-then, Machine-laws, ValuesWhole}
 use Rattle.jinja.proofs.Options.{false-true}
 
 -- a step that answered 0, before a run

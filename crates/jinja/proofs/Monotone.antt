@@ -1,14 +1,12 @@
 -- Where the needs of an instruction hold of a row they hold of every lower row, which sends less. Assumes nothing.
-use Prim.Native.Nat.{ℕ, zero, suc, _<_}
-use mathlib.Core.Path.{_≡_, refl, sym, ap, subst, _∙_}
+use Prim.Native.Nat.{ℕ}
+use mathlib.Core.Path.{_≡_, refl, ap, subst, _∙_}
 use mathlib.Core.List.{List, [], _∷_}
 use mathlib.Core.Logic.{_⊎_, inl, inr, ⊎-elim}
 use native.Mathlib.Omega.{arith}
-use lib.ListN.{length, set}
-use Rattle.std.specs.Finite.{nth}
-use Rattle.std.specs.declared.option.Option.the-variants.{Some, None}
+use Rattle.std.specs.declared.option.Option.the-variants.{Some}
 use Rattle.jinja.specs.declared.ty.Ty.{Ty}
-use Rattle.jinja.specs.declared.ty.Ty.the-variants.{Void, Boolean, Integer, NullType, Class}
+use Rattle.jinja.specs.declared.ty.Ty.the-variants.{Boolean, NullType, Class}
 use Rattle.jinja.specs.declared.instr.Literal.{Literal}
 use Rattle.jinja.specs.declared.instr.Literal.the-variants as literal
 use Rattle.jinja.specs.declared.instr.Instr.{Instr}
@@ -16,14 +14,13 @@ use Rattle.jinja.specs.declared.instr.Instr.the-variants.{Load, CmpEq, Invoke}
 use Rattle.jinja.specs.declared.program.Handler.{Handler}
 use Rattle.jinja.specs.Program.{Program}
 use Rattle.jinja.specs.Classes.{here}
-use Rattle.jinja.specs.ClassLaws.{StandsIn, Inheritance}
 use Rattle.jinja.specs.Lookups.{Owned}
 use Rattle.jinja.specs.WellFormed.{WellFormed}
 use Rattle.jinja.specs.Rows.{Cell, usable, Table}
-use Rattle.jinja.specs.Order.{Pairwise, nil, cons, Le, void, boolean, integer, null, null-class, subclass, Reference, null-reference, class-reference, LeAll, LeCell, le-usable, LeCells, le-reached}
+use Rattle.jinja.specs.Order.{nil, cons, Le, void, boolean, integer, null, null-class, subclass, Reference, null-reference, class-reference, LeAll, LeCell, le-usable, LeCells, le-reached}
 use Rattle.jinja.specs.Rule.{literal-type, operands, operands-of, Edge, next, Rule, load, store, push, pop, new, getfield, putfield, checkcast, invoke, invoke-null, return, iadd, cmpeq, cmpeq-references, iffalse, goto, throw}
 use Rattle.jinja.specs.WellTyping.{Caught}
-use Rattle.jinja.specs.TypingLaws.{LeEdges, le-stop, le-edge, Lower, Rules-monotone}
+use Rattle.jinja.specs.TypingLaws.{le-stop, le-edge, Lower, Rules-monotone}
 use Rattle.jinja.proofs.Pairwise.{pairs-length, shorter, pairs-lowest, pairs-nth, pairs-set, pairs-taken}
 use Rattle.jinja.proofs.Inheritance.{inheritance}
 use Rattle.jinja.proofs.Order.{le-trans, all-trans, row-trans, reference-down, le-refl}

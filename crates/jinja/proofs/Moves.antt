@@ -1,6 +1,6 @@
 -- What a step does to the heap, whatever state it meets. Assumes nothing.
-use Prim.Native.Nat.{ℕ, zero, suc}
-use mathlib.Core.Path.{_≡_, refl, sym, ap, subst, _∙_}
+use Prim.Native.Nat.{ℕ}
+use mathlib.Core.Path.{_≡_, refl, sym, subst, _∙_}
 use mathlib.Core.Bool.{Bool, true, false, cond}
 use mathlib.Core.List.{List, [], _∷_, _++_}
 use lib.Dec.{ltb, leb}
@@ -11,13 +11,13 @@ use Rattle.std.specs.declared.option.Option.the-variants.{Some, None}
 use Rattle.heap.specs.declared.value.Value.{Value}
 use Rattle.heap.specs.declared.value.Value.the-variants as value
 use Rattle.heap.specs.declared.charge.ChargeLine.{ChargeLine}
-use Rattle.heap.specs.Meaning.{Object, Meaning, admits}
+use Rattle.heap.specs.Meaning.{Meaning, admits}
 use Rattle.heap.specs.Calls.{with-object}
 use Rattle.jinja.specs.declared.instr.Instr.{Instr}
 use Rattle.jinja.specs.declared.instr.Instr.the-variants.{Load, Store, Push, Pop, New, Getfield, Putfield, Checkcast, Invoke, Return, IAdd, CmpEq, IfFalse, Goto, Throw}
 use Rattle.jinja.specs.declared.program.FieldPlace.{FieldPlace}
 use Rattle.jinja.specs.declared.program.Handler.{Handler}
-use Rattle.jinja.specs.Options.{_>>=_, _>>_}
+use Rattle.jinja.specs.Options.{_>>_}
 use Rattle.jinja.specs.Program.{Program}
 use Rattle.jinja.specs.Classes.{is-class, at-or-below}
 use Rattle.jinja.specs.Lookups.{Owned, own-field, method-at, sees}
@@ -25,8 +25,8 @@ use Rattle.jinja.specs.WellFormed.{WellFormed}
 use Rattle.jinja.specs.Rule.{Operands, operands, operands-of, jump}
 use Rattle.jinja.specs.Transfer.{can-push}
 use Rattle.jinja.specs.Values.{class-of, fits, fit-all, start-row}
-use Rattle.jinja.specs.Step.{Frame, null-pointer-at, class-cast-at, out-of-memory-at, frame-limit, as-boolean, as-integer, going, Next, goes, returned, threw, frames-full, on-reference, catcher, catch, unwind, raise, make, get, put, cast, call, return-to, exec}
-use Rattle.jinja.specs.History.{has-room-for, with-made}
+use Rattle.jinja.specs.Step.{Frame, null-pointer-at, class-cast-at, out-of-memory-at, frame-limit, as-boolean, as-integer, going, Next, goes, returned, threw, frames-full, on-reference, catcher, catch, unwind, raise, put, call, return-to, exec}
+use Rattle.jinja.specs.History.{with-made}
 use Rattle.jinja.proofs.Options.{conflict, some-inj}
 use Rattle.jinja.proofs.Bridge.{passed, tested}
 use Rattle.jinja.proofs.Instructions.{frame}

@@ -1,22 +1,22 @@
 -- The heap grows and is written: objects keep their classes and go on fitting. Assumes nothing.
-use Prim.Native.Nat.{ℕ, zero, suc, _<_}
+use Prim.Native.Nat.{ℕ, zero, suc}
 use mathlib.Core.Path.{_≡_, refl, sym, ap, subst, _∙_}
 use mathlib.Core.List.{List, [], _∷_, _++_}
 use mathlib.Core.Logic.{_⊎_, inl, inr, ⊎-elim}
 use lib.ListN.{length, set}
 use Rattle.std.specs.Finite.{nth}
-use Rattle.std.specs.declared.option.Option.the-variants.{Some, None}
+use Rattle.std.specs.declared.option.Option.the-variants.{Some}
 use Rattle.std.proofs.shelf.Maps.{nth-getD}
 use Rattle.heap.specs.declared.value.Value.{Value}
 use Rattle.heap.specs.Meaning.{Object, Meaning}
 use Rattle.heap.specs.Calls.{no-object, object-at, with-objects, with-object, with-field, with-value}
 use Rattle.jinja.specs.declared.ty.Ty.{Ty}
 use Rattle.jinja.specs.Program.{Program}
-use Rattle.jinja.specs.Classes.{maybe, IsClass}
+use Rattle.jinja.specs.Classes.{IsClass}
 use Rattle.jinja.specs.WellFormed.{WellFormed}
 use Rattle.jinja.specs.Lookups.{fields-of}
 use Rattle.jinja.specs.Values.{class-of, start-row}
-use Rattle.jinja.specs.Fits.{Fits, FitAll, field-types, ObjectFits, ObjectsFit, Exceptions}
+use Rattle.jinja.specs.Fits.{Fits, field-types, ObjectFits, ObjectsFit, Exceptions}
 use Rattle.jinja.proofs.Options.{conflict, some-inj, maybe-found, nth-below, nth-front}
 use Rattle.jinja.proofs.Existing.{fields-exist}
 use Rattle.jinja.proofs.Pairwise.{pairs-put}

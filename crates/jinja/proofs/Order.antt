@@ -1,18 +1,17 @@
 -- Types, registers and rows are partially ordered. Assumes nothing.
-use Prim.Native.Nat.{ℕ, _<_}
-use mathlib.Core.Path.{_≡_, refl, ap, subst}
-use mathlib.Core.List.{List, [], _∷_}
+use mathlib.Core.Path.{_≡_, refl, ap}
+use mathlib.Core.List.{List}
 use Rattle.std.specs.shelf.Lists.{All}
 use Rattle.std.proofs.shelf.Tests.{ltb-true}
 use Rattle.jinja.specs.declared.ty.Ty.{Ty}
 use Rattle.jinja.specs.declared.ty.Ty.the-variants.{Void, Boolean, Integer, NullType, Class}
 use Rattle.jinja.specs.Program.{Program}
-use Rattle.jinja.specs.Classes.{IsClass, AtOrBelow, here}
+use Rattle.jinja.specs.Classes.{here}
 use Rattle.jinja.specs.Lookups.{Owned}
 use Rattle.jinja.specs.WellFormed.{TypeExists, WellFormed}
-use Rattle.jinja.specs.Rows.{Cell, usable, unusable, Row, unreached, reached, CellExists, RowOf, no-row, row}
-use Rattle.jinja.specs.Order.{Pairwise, nil, cons, Le, void, boolean, integer, null, null-class, subclass, Reference, null-reference, class-reference, LeAll, LeCell, le-usable, le-unusable, LeCells, LeRow, le-unreached, le-reached}
-use Rattle.jinja.specs.TypingLaws.{RowOrder, Row-order, Least-unique}
+use Rattle.jinja.specs.Rows.{Cell, usable, unusable, Row, CellExists, RowOf, no-row, row}
+use Rattle.jinja.specs.Order.{nil, cons, Le, void, boolean, integer, null, null-class, subclass, Reference, null-reference, class-reference, LeAll, LeCell, le-usable, le-unusable, LeCells, LeRow, le-unreached, le-reached}
+use Rattle.jinja.specs.TypingLaws.{Row-order, Least-unique}
 use Rattle.jinja.proofs.Pairwise.{pairs-refl, pairs-trans}
 use Rattle.jinja.proofs.Climbs.{below-trans, below-antisym, upper-exists}
 

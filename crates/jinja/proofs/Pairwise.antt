@@ -6,7 +6,7 @@ use native.Mathlib.Omega.{arith}
 use lib.ListN.{length, set, drop}
 use Rattle.std.specs.Finite.{nth}
 use Rattle.std.specs.shelf.Lists.{All}
-use Rattle.std.specs.declared.option.Option.the-variants.{Some, None}
+use Rattle.std.specs.declared.option.Option.the-variants.{Some}
 use Rattle.jinja.specs.Order.{Pairwise, nil, cons}
 use Rattle.jinja.specs.Rule.{operands, taken}
 use Rattle.jinja.specs.Handlers.{lowest}

@@ -1,11 +1,10 @@
 -- Type safety: every call keeps a state that fits, and no step of one is unsound. Assumes nothing.
-use Prim.Native.Nat.{ℕ, zero, suc, _+_, _<_}
+use Prim.Native.Nat.{ℕ, zero, suc}
 use mathlib.Core.Path.{_≡_, refl, sym, ap, subst, _∙_}
 use mathlib.Core.Bool.{Bool, true, false, cond}
-use mathlib.Core.List.{List, [], _∷_, _++_}
+use mathlib.Core.List.{List}
 use native.Mathlib.Omega.{arith}
 use lib.Dec.{eqb}
-use lib.ListN.{length}
 use Rattle.std.specs.Finite.{nth}
 use Rattle.std.specs.declared.option.Option.{Option}
 use Rattle.std.specs.declared.option.Option.the-variants.{Some, None}
@@ -13,7 +12,7 @@ use Rattle.std.specs.declared.result.Result.{Result}
 use Rattle.std.specs.declared.result.Result.the-variants.{Ok, Err}
 use Rattle.std.proofs.shelf.Tests.{cond-both}
 use Rattle.heap.specs.declared.value.Value.{Value}
-use Rattle.heap.specs.Meaning.{Object, Meaning, admits}
+use Rattle.heap.specs.Meaning.{Meaning}
 use Rattle.heap.specs.Calls.{with-object, after-empty}
 use Rattle.jinja.specs.declared.ty.Ty.{Ty}
 use Rattle.jinja.specs.declared.instr.Instr.{Instr}
@@ -25,32 +24,30 @@ use Rattle.jinja.specs.declared.answer.Refusal.the-variants as refusal
 use Rattle.jinja.specs.declared.answer.Phase.{Phase}
 use Rattle.jinja.specs.declared.answer.Phase.the-variants.{Idle, Running, Finished, Uncaught}
 use Rattle.jinja.specs.declared.answer.Outcome.{Outcome}
-use Rattle.jinja.specs.declared.answer.Outcome.the-variants.{Nothing, Returned, Threw}
+use Rattle.jinja.specs.declared.answer.Outcome.the-variants.{Returned, Threw}
 use Rattle.jinja.specs.declared.answer.Ended.{Ended}
 use Rattle.jinja.specs.declared.answer.Ran.{Ran}
 use Rattle.jinja.specs.Answers.{answer-number}
-use Rattle.jinja.specs.Options.{_>>=_, _>>_}
 use Rattle.jinja.specs.Program.{Program}
 use Rattle.jinja.specs.Classes.{maybe, IsClass}
 use Rattle.jinja.specs.Lookups.{Owned, method-at, sees}
 use Rattle.jinja.specs.WellFormed.{WellFormed}
 use Rattle.jinja.specs.Rows.{Cell, Table}
-use Rattle.jinja.specs.Order.{Pairwise}
 use Rattle.jinja.specs.Rule.{Edge, Rule}
 use Rattle.jinja.specs.Handlers.{null-pointer, class-cast, out-of-memory}
 use Rattle.jinja.specs.WellTyping.{FlowAll, WellTypings}
 use Rattle.jinja.specs.Values.{class-of, fit-all, start-row}
-use Rattle.jinja.specs.Step.{Frame, Next, goes, returned, threw, frames-full, exec, next-step}
+use Rattle.jinja.specs.Step.{Frame, Next, exec, next-step}
 use Rattle.jinja.specs.State.{State, made, settled, step-in, step, run-on, run}
-use Rattle.jinja.specs.Calls.{this-at, begun, emptied, ended, add-object, first-objects, begin-with, begin-seen, begin-in, begin, end-with, end-in, end}
-use Rattle.jinja.specs.Fits.{Fits, FitAll, FitCells, ObjectsFit, Exceptions, FrameFits, Below, bottom, Stand, stand, PhaseFits, idle-fits, running-fits, finished-fits, uncaught-fits, StateFits}
-use Rattle.jinja.specs.Safety.{TypeSafe, Type-safety}
+use Rattle.jinja.specs.Calls.{this-at, begun, emptied, add-object, first-objects, begin-with, begin-seen, begin-in, begin, end-with, end-in}
+use Rattle.jinja.specs.Fits.{Fits, FitAll, FitCells, ObjectsFit, Exceptions, bottom, Stand, stand, PhaseFits, idle-fits, running-fits, finished-fits, uncaught-fits, StateFits}
+use Rattle.jinja.specs.Safety.{Type-safety}
 use Rattle.jinja.proofs.Options.{conflict, some-inj, nth-inside}
 use Rattle.jinja.proofs.Climbs.{built-in-class, lower-exists}
 use Rattle.jinja.proofs.Inheritance.{inheritance}
 use Rattle.jinja.proofs.Bridge.{passed, tested}
 use Rattle.jinja.proofs.Values.{Grows, all-grow, fit-all-found}
-use Rattle.jinja.proofs.Objects.{grows-add, class-new, objects-added}
+use Rattle.jinja.proofs.Objects.{objects-added}
 use Rattle.jinja.proofs.Good.{Good, good-goes, good-returned, good-threw, good-full, Now, bind}
 use Rattle.jinja.proofs.Instructions.{frame, Handled, load-good, store-good, push-good, pop-good, new-good, getfield-good, putfield-good, checkcast-good, iadd-good, cmpeq-good, iffalse-good, goto-good, throw-good}
 use Rattle.jinja.proofs.Invoking.{opened-fits, invoke-good, return-good}

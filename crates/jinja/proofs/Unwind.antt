@@ -1,10 +1,9 @@
 -- An exception finds its handler, frame by frame. Assumes nothing.
-use Prim.Native.Nat.{ℕ, _≤_, _<_}
-use mathlib.Core.Path.{_≡_, refl, sym, ap, subst}
+use Prim.Native.Nat.{ℕ}
+use mathlib.Core.Path.{_≡_, refl, subst}
 use mathlib.Core.Bool.{Bool, true, false, cond}
 use mathlib.Core.List.{List, [], _∷_}
 use native.Mathlib.Omega.{arith}
-use lib.ListN.{length}
 use Rattle.std.specs.declared.option.Option.{Option}
 use Rattle.std.specs.declared.option.Option.the-variants.{Some, None}
 use Rattle.std.proofs.shelf.Tests.{lt-ltb, le-leb, ltb-true, leb-true, and-parts}
@@ -25,7 +24,7 @@ use Rattle.jinja.specs.Fits.{address-fits, ObjectsFit, Exceptions, FrameFits, 
 use Rattle.jinja.proofs.Options.{conflict, some-inj}
 use Rattle.jinja.proofs.Climbs.{below-found}
 use Rattle.jinja.proofs.Pairwise.{pairs-length, pairs-lowest}
-use Rattle.jinja.proofs.Good.{Good, good-goes, good-threw, Now, bind, guard, frame-at}
+use Rattle.jinja.proofs.Good.{Good, good-goes, good-threw, bind, guard, frame-at}
 
 pub record Catching (P : Program) (xs : List Handler) (pc c : ℕ) (x : Handler) : Type 0 where
   pub listed : In x xs

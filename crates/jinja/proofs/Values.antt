@@ -1,16 +1,16 @@
 -- Values fit what lies above and what the heap grows to, and the tests decide it. Assumes nothing.
-use Prim.Native.Nat.{ℕ, zero, suc, _<_}
-use mathlib.Core.Path.{_≡_, refl, sym, ap, subst, _∙_}
-use mathlib.Core.Bool.{Bool, true, false}
+use Prim.Native.Nat.{ℕ, zero, suc}
+use mathlib.Core.Path.{_≡_, refl, sym, subst}
+use mathlib.Core.Bool.{true, false}
 use mathlib.Core.List.{List, [], _∷_, _++_, map}
-use lib.ListN.{length, replicate}
+use lib.ListN.{replicate}
 use Rattle.std.specs.shelf.Lists.{All}
 use Rattle.std.specs.declared.option.Option.{Option}
 use Rattle.std.specs.declared.option.Option.the-variants.{Some, None}
 use Rattle.std.proofs.shelf.Tests.{lt-ltb, ltb-true, and-from, and-parts}
 use Rattle.heap.specs.declared.value.Value.{Value}
 use Rattle.heap.specs.declared.value.Value.the-variants as value
-use Rattle.heap.specs.Meaning.{Object, Meaning}
+use Rattle.heap.specs.Meaning.{Meaning}
 use Rattle.jinja.specs.declared.ty.Ty.{Ty}
 use Rattle.jinja.specs.declared.ty.Ty.the-variants.{Void, Boolean, Integer, NullType, Class}
 use Rattle.jinja.specs.declared.instr.Literal.{Literal}
@@ -20,13 +20,13 @@ use Rattle.jinja.specs.Program.{Program}
 use Rattle.jinja.specs.Classes.{maybe}
 use Rattle.jinja.specs.WellFormed.{TypeExists, WellFormed}
 use Rattle.jinja.specs.Rows.{Cell, usable, unusable}
-use Rattle.jinja.specs.Order.{Pairwise, nil, cons, Le, void, boolean, integer, null, null-class, subclass, LeAll, LeCell, le-usable, le-unusable, LeCells}
+use Rattle.jinja.specs.Order.{nil, cons, Le, void, boolean, integer, null, null-class, subclass, LeAll, LeCell, le-usable, le-unusable, LeCells}
 use Rattle.jinja.specs.Rule.{literal-type}
 use Rattle.jinja.specs.Transfer.{type-le}
 use Rattle.jinja.specs.Values.{class-of, value-type, fits, fit-all, literal-value, start-value}
 use Rattle.jinja.specs.Fits.{Fits, unit-fits, null-fits, null-fits-class, boolean-fits, integer-fits, address-fits, FitAll, FitsCell, fits-usable, fits-unusable, FitCells}
 use Rattle.jinja.proofs.Options.{some-inj, false-true, maybe-found}
-use Rattle.jinja.proofs.Climbs.{below-trans, below-tested, below-found, upper-exists}
+use Rattle.jinja.proofs.Climbs.{below-trans, below-tested, upper-exists}
 use Rattle.jinja.proofs.Pairwise.{pairs-map, pairs-trans}
 use Rattle.jinja.proofs.Bridge.{le-found}
 

@@ -1,5 +1,5 @@
 -- What holds of the class table of every program that keeps the rules. Assumes nothing.
-use Prim.Native.Nat.{ℕ, _<_}
+use Prim.Native.Nat.{ℕ}
 use mathlib.Core.Path.{_≡_}
 use mathlib.Core.Bool.{true}
 use Rattle.std.specs.Finite.{nth}

@@ -2,21 +2,22 @@
 use Prim.Native.Nat.{ℕ, zero, suc}
 use mathlib.Core.Path.{_≡_}
 use mathlib.Core.List.{List, [], _∷_}
-use lib.IntN.{pos}
+use lib.IntN.{pos, negsuc}
 use Rattle.heap.specs.declared.value.Value.the-variants as value
 use Rattle.heap.specs.declared.charge.ChargeLine.{ChargeLine}
 use Rattle.heap.specs.Meaning.{Meaning}
 use Rattle.jinja.specs.declared.ty.Ty.the-variants.{Integer, Class}
 use Rattle.jinja.specs.declared.instr.Literal.the-variants as literal
-use Rattle.jinja.specs.declared.instr.Instr.the-variants.{Load, Push, Pop, Getfield, Checkcast, Invoke, Return}
+use Rattle.jinja.specs.declared.instr.Instr.the-variants.{Load, Push, Pop, Getfield, Checkcast, Invoke, Return, IAdd}
 use Rattle.jinja.specs.declared.answer.Answer.the-variants as answer
 use Rattle.jinja.specs.declared.answer.Phase.the-variants.{Finished}
 use Rattle.jinja.specs.declared.answer.Outcome.the-variants.{Returned}
 use Rattle.jinja.specs.declared.answer.Reply.the-variants as reply
-use Rattle.jinja.specs.Program.{MethodDecl, ClassDecl, Program}
+use Rattle.jinja.specs.Program.{MethodDecl, Program}
 use Rattle.jinja.specs.WellFormed.{WellFormed}
-use Rattle.jinja.specs.Rows.{usable, Row, unreached, reached, Table}
+use Rattle.jinja.specs.Rows.{usable, reached, Table}
 use Rattle.jinja.specs.WellTyping.{LeastTypings}
+use Rattle.jinja.specs.Step.{Frame, going, exec}
 use Rattle.jinja.specs.State.{made}
 use Rattle.jinja.specs.Calls.{Call, begins, runs, ends}
 use Rattle.jinja.specs.History.{replies, events, objects-made}
@@ -79,9 +80,14 @@ example-heap = record { objects = []; lines = example-line ∷ [] }
 abbrev pub example-calls : List Call
 example-calls = begins 4 7 [] ∷ runs 20 ∷ ends 5 ∷ []
 
+-- the greatest Integer and 1, at an IAdd
+abbrev pub adding : Frame
+adding = record { method = 0; pc = 0; stack = value.Int (pos 1) ∷ value.Int (pos 2147483647) ∷ []; registers = [] }
+
 pub record ExampleStands : Type 0 where
   pub well-formed : WellFormed example
   pub typed : LeastTypings example example-rows
   pub promise : (h : Meaning) (number : ℕ) (calls : List Call) → Promise example example-rows h number calls
   pub answers : replies example example-calls (made example-heap 5) ≡ reply.Began 5 ∷ reply.Ran (record { count = 9; last = answer.Finished }) ∷ reply.Ended (record { phase = Finished; steps = 9; outcome = Returned (value.Int (pos 1)) }) ∷ []
   pub makes : objects-made example (example-heap .lines) (events example example-calls (made example-heap 5)) [] ≡ 1 ∷ 2 ∷ 3 ∷ 4 ∷ []
+  pub wraps : exec example IAdd example-heap (record { owner = 4; method = outer }) adding [] ≡ going example-heap adding (value.Int (negsuc 2147483647) ∷ []) []

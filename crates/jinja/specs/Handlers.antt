@@ -1,6 +1,6 @@
 -- Which handlers an instruction must reckon with. Assumes nothing.
 use Prim.Native.Nat.{ℕ, _-_, _≤_, _<_}
-use mathlib.Core.List.{List, [], _∷_}
+use mathlib.Core.List.{List, _∷_}
 use lib.ListN.{length, drop}
 use Rattle.jinja.specs.declared.instr.Instr.{Instr}
 use Rattle.jinja.specs.declared.instr.Instr.the-variants.{New, Getfield, Putfield, Checkcast, Invoke, Throw}

@@ -26,3 +26,4 @@ pub mod History
 pub mod Promise
 pub mod MachineLaws
 pub mod Example
+pub mod HeapLaws

@@ -6,7 +6,7 @@ use lib.Dec.{ltb}
 use lib.ListN.{length}
 use Rattle.std.specs.Finite.{nth}
 use Rattle.std.specs.declared.option.Option.{Option}
-use Rattle.std.specs.declared.option.Option.the-variants.{Some, None}
+use Rattle.std.specs.declared.option.Option.the-variants.{None}
 use Rattle.heap.specs.declared.value.Value.{Value}
 use Rattle.jinja.specs.declared.answer.Phase.{Phase}
 use Rattle.jinja.specs.Options.{_>>=_}

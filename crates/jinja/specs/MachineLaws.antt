@@ -1,9 +1,16 @@
 -- Laws of the machine in the subject's words, of every program and every state. Assumes nothing.
-use Prim.Native.Nat.{ℕ, suc, _+_, _≤_, min}
+use Prim.Native.Nat.{ℕ, suc, _+_, _≤_, _<_, min}
 use mathlib.Core.Path.{_≡_}
 use mathlib.Core.Bool.{true}
+use mathlib.Core.List.{List, _∷_}
+use lib.ListN.{length}
+use Rattle.std.specs.Finite.{nth}
+use Rattle.std.specs.declared.option.Option.the-variants.{Some, None}
 use Rattle.heap.specs.declared.value.Value.{Value}
+use Rattle.heap.specs.declared.value.Value.the-variants as value
 use Rattle.heap.specs.Meaning.{Meaning}
+use Rattle.heap.specs.Calls.{after-empty}
+use Rattle.jinja.specs.declared.ty.Ty.{Ty}
 use Rattle.jinja.specs.declared.answer.Answer.{Answer}
 use Rattle.jinja.specs.declared.answer.Answer.the-variants as answer
 use Rattle.jinja.specs.declared.answer.Refusal.{Refusal}
@@ -12,9 +19,11 @@ use Rattle.jinja.specs.declared.answer.Phase.the-variants.{Finished, Uncaught}
 use Rattle.jinja.specs.declared.answer.Ran.{Ran}
 use Rattle.jinja.specs.declared.answer.Reply.the-variants as reply
 use Rattle.jinja.specs.Program.{Program}
-use Rattle.jinja.specs.Values.{same-value}
+use Rattle.jinja.specs.Values.{fit-all, same-value}
+use Rattle.jinja.specs.Step.{Frame}
 use Rattle.jinja.specs.State.{State, most-steps, step, run}
 use Rattle.jinja.specs.Calls.{end, Call, perform}
+use Rattle.jinja.specs.Look.{from-bottom}
 
 module _ (P : Program) where
   -- n steps more behind a run that has answered x last: none, unless x is 0
@@ -41,6 +50,20 @@ pub record MachineLaws (P : Program) : Type 0 where
 
 abbrev pub Machine-laws : Type 0
 Machine-laws = (P : Program) → MachineLaws P
+
+-- what begin's arguments may be: in a heap without objects nothing that fits is an address
+abbrev pub No-address-begins : Type 0
+No-address-begins = (P : Program) (h : Meaning) (args : List Value) (ts : List Ty) → fit-all P (after-empty h) args ts ≡ true → (i a : ℕ) → nth args i ≡ Some (value.Addr a) → ⊥
+
+-- looking shows something exactly below the count, and what is put on top leaves the rest where it was
+pub record LookLaws (A : Type 0) : Type 0 where
+  pub shows : (xs : List A) (i : ℕ) → i < length xs → (x : A) × (from-bottom xs i ≡ Some x)
+  pub nothing : (xs : List A) (i : ℕ) → length xs ≤ i → from-bottom xs i ≡ None
+  pub top-shows : (x : A) (xs : List A) → from-bottom (x ∷ xs) (length xs) ≡ Some x
+  pub below-stays : (x : A) (xs : List A) (i : ℕ) → i < length xs → from-bottom (x ∷ xs) i ≡ from-bottom xs i
+
+abbrev pub Look-laws : Type 0
+Look-laws = LookLaws Frame × LookLaws Value
 
 -- CmpEq compares values whole
 pub record ValuesWhole : Type 0 where

@@ -1,7 +1,7 @@
 -- The promise about histories. Assumes nothing.
 use Prim.Native.Nat.{ℕ, _≤_}
 use mathlib.Core.Path.{_≡_}
-use mathlib.Core.List.{List, [], _∷_}
+use mathlib.Core.List.{List, []}
 use Rattle.std.specs.Finite.{nth}
 use Rattle.std.specs.declared.option.Option.the-variants.{Some}
 use Rattle.heap.specs.declared.charge.ChargeLine.{ChargeLine}
@@ -13,7 +13,7 @@ use Rattle.jinja.specs.WellFormed.{WellFormed}
 use Rattle.jinja.specs.Rows.{Table}
 use Rattle.jinja.specs.WellTyping.{LeastTypings}
 use Rattle.jinja.specs.Step.{Frame}
-use Rattle.jinja.specs.State.{State, made}
+use Rattle.jinja.specs.State.{made}
 use Rattle.jinja.specs.Calls.{Call}
 use Rattle.jinja.specs.Fits.{ObjectsFit, Exceptions, Stand}
 use Rattle.jinja.specs.History.{after, step-answers, events, cost-of-made, objects-made}

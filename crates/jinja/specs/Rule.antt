@@ -17,7 +17,7 @@ use Rattle.jinja.specs.declared.program.FieldPlace.{FieldPlace}
 use Rattle.jinja.specs.Program.{Program}
 use Rattle.jinja.specs.Classes.{IsClass}
 use Rattle.jinja.specs.Lookups.{Owned, own-field, method-at, sees}
-use Rattle.jinja.specs.Rows.{Cell, usable, unusable}
+use Rattle.jinja.specs.Rows.{Cell, usable}
 use Rattle.jinja.specs.Order.{Le, LeAll, Reference}
 
 abbrev pub literal-type : Literal → Ty

@@ -6,9 +6,7 @@ use Rattle.std.specs.declared.option.Option.the-variants.{Some}
 use Rattle.std.specs.declared.result.Result.the-variants.{Ok}
 use Rattle.heap.specs.declared.value.Value.{Value}
 use Rattle.heap.specs.Meaning.{Meaning}
-use Rattle.jinja.specs.declared.answer.Answer.{Answer}
 use Rattle.jinja.specs.declared.answer.Answer.the-variants as answer
-use Rattle.jinja.specs.declared.answer.Phase.{Phase}
 use Rattle.jinja.specs.declared.answer.Phase.the-variants.{Idle}
 use Rattle.jinja.specs.declared.answer.Outcome.the-variants.{Returned, Threw}
 use Rattle.jinja.specs.Program.{Program}

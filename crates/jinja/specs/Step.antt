@@ -1,6 +1,6 @@
 -- One step of the machine: first the checks, then the effect. A check that fails leaves no answer. Assumes nothing.
 use Prim.Native.Nat.{ℕ, suc}
-use mathlib.Core.Bool.{Bool, true, false, cond, _&&_}
+use mathlib.Core.Bool.{Bool, cond, _&&_}
 use mathlib.Core.List.{List, [], _∷_, _++_}
 use lib.Dec.{ltb, leb}
 use lib.IntN.{ℤ, _+ℤ_}
@@ -12,17 +12,17 @@ use Rattle.std.specs.declared.option.Option.{Option}
 use Rattle.std.specs.declared.option.Option.the-variants.{Some, None}
 use Rattle.heap.specs.declared.value.Value.{Value}
 use Rattle.heap.specs.declared.value.Value.the-variants as value
-use Rattle.heap.specs.Meaning.{Object, Meaning, admits}
+use Rattle.heap.specs.Meaning.{Meaning, admits}
 use Rattle.heap.specs.Calls.{with-object, with-value}
 use Rattle.jinja.specs.declared.instr.Instr.{Instr}
 use Rattle.jinja.specs.declared.instr.Instr.the-variants.{Load, Store, Push, Pop, New, Getfield, Putfield, Checkcast, Invoke, Return, IAdd, CmpEq, IfFalse, Goto, Throw}
 use Rattle.jinja.specs.declared.program.FieldPlace.{FieldPlace}
 use Rattle.jinja.specs.declared.program.Handler.{Handler}
-use Rattle.jinja.specs.Options.{_>>=_, _>>_, Top, top, top-of, Two, two, two-of}
+use Rattle.jinja.specs.Options.{_>>=_, _>>_, top, top-of, two, two-of}
 use Rattle.jinja.specs.Program.{Program}
 use Rattle.jinja.specs.Classes.{is-class, at-or-below}
 use Rattle.jinja.specs.Lookups.{Owned, own-field, method-at, sees}
-use Rattle.jinja.specs.Rule.{Operands, operands, operands-of, jump}
+use Rattle.jinja.specs.Rule.{operands, operands-of, jump}
 use Rattle.jinja.specs.Handlers.{lowest}
 use Rattle.jinja.specs.Transfer.{can-push}
 use Rattle.jinja.specs.Values.{class-of, fits, fit-all, literal-value, start-row, same-value}

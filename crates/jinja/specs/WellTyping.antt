@@ -12,7 +12,7 @@ use Rattle.jinja.specs.declared.program.Handler.{Handler}
 use Rattle.jinja.specs.Program.{Program}
 use Rattle.jinja.specs.Classes.{IsClass}
 use Rattle.jinja.specs.Lookups.{Owned, method-at}
-use Rattle.jinja.specs.Rows.{Cell, Row, reached, Table, first-row, RowOf}
+use Rattle.jinja.specs.Rows.{Cell, reached, Table, first-row, RowOf}
 use Rattle.jinja.specs.Order.{LeRow}
 use Rattle.jinja.specs.Rule.{Edge, edge, Rule}
 use Rattle.jinja.specs.Handlers.{Relevant, lowest, In}

@@ -1,7 +1,8 @@
 // The theorems about the subject. Each function does nothing: its contract is the theorem.
 ghost use Rattle.jinja.specs.ClassLaws.{Class-order, Class-inheritance};
 ghost use Rattle.jinja.specs.Example.{ExampleStands};
-ghost use Rattle.jinja.specs.MachineLaws.{Machine-laws, ValuesWhole};
+ghost use Rattle.jinja.specs.HeapLaws.{Heap-laws};
+ghost use Rattle.jinja.specs.MachineLaws.{Look-laws, Machine-laws, No-address-begins, ValuesWhole};
 ghost use Rattle.jinja.specs.Promise.{Histories-keep};
 ghost use Rattle.jinja.specs.Safety.{Type-safety};
 ghost use Rattle.jinja.specs.TypingLaws.{Row-order, Join-laws, Rules-monotone, Sends-by-rules, Least-unique};
@@ -67,4 +68,19 @@ pub fn values_compare_whole()
 /// A small program with a call, a handler, a field and a cast meets every condition of the theorems, and its run computes.
 pub fn example_stands()
     ensures { λ _. ⌜ ExampleStands ⌝ }
+{}
+
+/// What the machine looks up in a heap is what the heap's own calls answer.
+pub fn heap_answers()
+    ensures { λ _. ⌜ Heap-laws ⌝ }
+{}
+
+/// Begin refuses every address among its arguments, whatever the heap of the last run holds.
+pub fn no_address_begins()
+    ensures { λ _. ⌜ No-address-begins ⌝ }
+{}
+
+/// Looking shows a frame or a cell exactly where one stands, counted from the bottom.
+pub fn look_laws()
+    ensures { λ _. ⌜ Look-laws ⌝ }
 {}

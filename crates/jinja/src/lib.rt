@@ -1,4 +1,5 @@
-// The subject: the types, literals and instructions of a rule set, and in specs/ what they mean.
+// The subject: the types, literals and instructions of a rule set, the machine's answers, in specs/ what they mean, and
+// the theorems about them.
 pub mod answer;
 pub mod instr;
 pub mod laws;
