@@ -245,5 +245,6 @@ example-stands = record {
   promise = histories-keep example well-formed example-rows least;
   answers = refl;
   makes = refl;
+  fills = refl;
   wraps = refl;
 }

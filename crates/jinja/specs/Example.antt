@@ -80,6 +80,22 @@ example-heap = record { objects = []; lines = example-line ∷ [] }
 abbrev pub example-calls : List Call
 example-calls = begins 4 7 [] ∷ runs 20 ∷ ends 5 ∷ []
 
+-- method 7 calls itself on this object without end
+abbrev pub endless : Program
+endless = record {
+  superclass = 0;
+  fields = [];
+  methods = record {
+    name = 7;
+    params = [];
+    result = Integer;
+    height = 1;
+    extras = 0;
+    code = Load 0 ∷ Invoke 7 0 ∷ Return ∷ [];
+    handlers = [];
+  } ∷ [];
+} ∷ []
+
 -- the greatest Integer and 1, at an IAdd
 abbrev pub adding : Frame
 adding = record { method = 0; pc = 0; stack = value.Int (pos 1) ∷ value.Int (pos 2147483647) ∷ []; registers = [] }
@@ -90,4 +106,6 @@ pub record ExampleStands : Type 0 where
   pub promise : (h : Meaning) (number : ℕ) (calls : List Call) → Promise example example-rows h number calls
   pub answers : replies example example-calls (made example-heap 5) ≡ reply.Began 5 ∷ reply.Ran (record { count = 9; last = answer.Finished }) ∷ reply.Ended (record { phase = Finished; steps = 9; outcome = Returned (value.Int (pos 1)) }) ∷ []
   pub makes : objects-made example (example-heap .lines) (events example example-calls (made example-heap 5)) [] ≡ 1 ∷ 2 ∷ 3 ∷ 4 ∷ []
+  -- with 32 frames the next Invoke finds no room
+  pub fills : replies endless (begins 4 7 [] ∷ runs 100 ∷ []) (made example-heap 5) ≡ reply.Began 5 ∷ reply.Ran (record { count = 63; last = answer.FramesFull }) ∷ []
   pub wraps : exec example IAdd example-heap (record { owner = 4; method = outer }) adding [] ≡ going example-heap adding (value.Int (negsuc 2147483647) ∷ []) []
