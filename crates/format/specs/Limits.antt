@@ -1,5 +1,5 @@
 -- The limits of a rule set, as src/limits.rt has them for the code. Assumes nothing.
-use Prim.Native.Nat.{ℕ}
+use Prim.Native.Nat.{ℕ, _+_, _*_}
 
 -- own classes of a set
 abbrev pub max-classes : ℕ
@@ -48,3 +48,14 @@ max-handler-number = 256
 -- the greatest number that stands for a jump offset
 abbrev pub max-offset : ℕ
 max-offset = 510
+
+-- classes in all, the four built-in ones included
+abbrev pub all-classes : ℕ
+all-classes = 4 + max-classes
+
+-- the fields that all classes declare together, and the parameters of all methods
+abbrev pub all-fields : ℕ
+all-fields = max-classes * max-fields
+
+abbrev pub all-params : ℕ
+all-params = max-methods * max-params

@@ -9,6 +9,7 @@ ghost use Rattle.format.specs.Reading.{Left};
 ghost use Rattle.tables.specs.Views.{classes-of, program-of};
 ghost use Rattle.set.specs.Counts.{below-at};
 ghost use Rattle.set.specs.Progress.{Full, class-step};
+ghost use Rattle.format.specs.Limits.{all-classes, max-classes};
 use crate::methods::read_methods;
 use crate::push::push_class;
 use crate::spans::read_fields;
@@ -21,7 +22,7 @@ use tables::tables::Tables;
 
 // The superclass of a class that has `known` own classes before it.
 fn read_superclass(c: &mut Cursor, known: usize) -> Result<ClassNumber, TableFault>
-    requires { ⌜ known ≤ 28 ⌝ }
+    requires { ⌜ known ≤ max-classes ⌝ }
     ensures file { λ _. ⌜ file-of (now (c .exit)) ≡ file-of (now (c .entry)) ⌝ }
     ensures gave { λ r. ⌜ Gave r (place-of (now (c .exit))) (below-at (file-of (now (c .entry))) (4 + known) (place-of (now (c .entry)))) ⌝ }
 {
@@ -35,8 +36,8 @@ fn read_superclass(c: &mut Cursor, known: usize) -> Result<ClassNumber, TableFau
 
 // Reads a class, and puts it behind those of the tables; `n` classes are named in all.
 pub(crate) fn read_class(c: &mut Cursor, n: u32, t: &mut Tables) -> Result<(), TableFault>
-    requires few { ⌜ n ≤ 32 ⌝ }
-    requires room { ⌜ length (classes-of (now t)) < 28 ⌝ }
+    requires few { ⌜ n ≤ all-classes ⌝ }
+    requires room { ⌜ length (classes-of (now t)) < max-classes ⌝ }
     requires full { ⌜ Full (now t) ⌝ }
     ensures file { λ _. ⌜ file-of (now (c .exit)) ≡ file-of (now (c .entry)) ⌝ }
     ensures full { λ r. ⌜ made r (λ _. Full (now (t .exit))) ⌝ }

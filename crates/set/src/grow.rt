@@ -9,6 +9,7 @@ ghost use Rattle.format.specs.Reading.{counted};
 ghost use Rattle.format.specs.Parse.{type-at, instr-at, handler-at, field-at};
 ghost use Rattle.tables.specs.Views.{fields-of, params-of, instrs-of, handlers-of};
 ghost use Rattle.set.specs.Grown.{Grew, OnlyFields, OnlyParams, OnlyInstrs, OnlyHandlers};
+ghost use Rattle.format.specs.Limits.{all-classes, all-fields, all-params, max-handlers, max-instrs};
 use crate::counted::FieldItem;
 use crate::counted::HandlerItem;
 use crate::counted::InstrItem;
@@ -26,8 +27,8 @@ pub(crate) fn grow_fields(
     count: usize,
     t: &mut Tables,
 ) -> Result<Span, TableFault>
-    requires few { ⌜ n ≤ 32 ⌝ }
-    requires room { ⌜ length (fields-of (now t)) + count ≤ 224 ⌝ }
+    requires few { ⌜ n ≤ all-classes ⌝ }
+    requires room { ⌜ length (fields-of (now t)) + count ≤ all-fields ⌝ }
     ensures file { λ _. ⌜ file-of (now (c .exit)) ≡ file-of (now (c .entry)) ⌝ }
     ensures rest { λ _. ⌜ OnlyFields (now (t .entry)) (now (t .exit)) ⌝ }
     ensures size { λ r. ⌜ made r (λ s. s .count ≡ count) ⌝ }
@@ -46,8 +47,8 @@ pub(crate) fn grow_params(
     count: usize,
     t: &mut Tables,
 ) -> Result<Span, TableFault>
-    requires few { ⌜ n ≤ 32 ⌝ }
-    requires room { ⌜ length (params-of (now t)) + count ≤ 512 ⌝ }
+    requires few { ⌜ n ≤ all-classes ⌝ }
+    requires room { ⌜ length (params-of (now t)) + count ≤ all-params ⌝ }
     ensures file { λ _. ⌜ file-of (now (c .exit)) ≡ file-of (now (c .entry)) ⌝ }
     ensures rest { λ _. ⌜ OnlyParams (now (t .entry)) (now (t .exit)) ⌝ }
     ensures size { λ r. ⌜ made r (λ s. s .count ≡ count) ⌝ }
@@ -66,8 +67,8 @@ pub(crate) fn grow_instrs(
     count: usize,
     t: &mut Tables,
 ) -> Result<Span, TableFault>
-    requires few { ⌜ n ≤ 32 ⌝ }
-    requires room { ⌜ length (instrs-of (now t)) + count ≤ 1024 ⌝ }
+    requires few { ⌜ n ≤ all-classes ⌝ }
+    requires room { ⌜ length (instrs-of (now t)) + count ≤ max-instrs ⌝ }
     ensures file { λ _. ⌜ file-of (now (c .exit)) ≡ file-of (now (c .entry)) ⌝ }
     ensures rest { λ _. ⌜ OnlyInstrs (now (t .entry)) (now (t .exit)) ⌝ }
     ensures gave { λ r. ⌜ Grew r (instrs-of (now (t .entry))) (instrs-of (now (t .exit))) (place-of (now (c .exit))) (counted (λ _. instr-at (file-of (now (c .entry)))) count [] (place-of (now (c .entry)))) ⌝ }
@@ -85,8 +86,8 @@ pub(crate) fn grow_handlers(
     count: usize,
     t: &mut Tables,
 ) -> Result<Span, TableFault>
-    requires few { ⌜ n ≤ 32 ⌝ }
-    requires room { ⌜ length (handlers-of (now t)) + count ≤ 64 ⌝ }
+    requires few { ⌜ n ≤ all-classes ⌝ }
+    requires room { ⌜ length (handlers-of (now t)) + count ≤ max-handlers ⌝ }
     ensures file { λ _. ⌜ file-of (now (c .exit)) ≡ file-of (now (c .entry)) ⌝ }
     ensures rest { λ _. ⌜ OnlyHandlers (now (t .entry)) (now (t .exit)) ⌝ }
     ensures gave { λ r. ⌜ Grew r (handlers-of (now (t .entry))) (handlers-of (now (t .exit))) (place-of (now (c .exit))) (counted (λ _. handler-at (file-of (now (c .entry)))) count [] (place-of (now (c .entry)))) ⌝ }

@@ -4,7 +4,7 @@ ghost use Prim.Native.Nat.{_≤_};
 ghost use Rattle.number.specs.Numbers.{Gave};
 ghost use Rattle.number.specs.Places.{file-of, place-of};
 ghost use Rattle.number.specs.Signed.{signed};
-ghost use Rattle.format.specs.Limits.{max-operand, max-handler-number, max-offset};
+ghost use Rattle.format.specs.Limits.{max-operand, max-handler-number, max-offset, all-classes};
 ghost use Rattle.format.specs.Reading.{at-most};
 ghost use Rattle.format.specs.Parse.{type-at, boolean-at, literal-at, instr-at, handler-at};
 ghost use Rattle.jinja.specs.Types.{type-of-number};
@@ -73,7 +73,7 @@ fn type_of(t: u32) -> Ty
 
 // A type, where there are `n` classes in all.
 pub(crate) fn read_type(c: &mut Cursor, n: u32) -> Result<Ty, TableFault>
-    requires { ⌜ n ≤ 32 ⌝ }
+    requires { ⌜ n ≤ all-classes ⌝ }
     ensures file { λ _. ⌜ file-of (now (c .exit)) ≡ file-of (now (c .entry)) ⌝ }
     ensures gave { λ r. ⌜ Gave r (place-of (now (c .exit))) (type-at (file-of (now (c .entry))) n (place-of (now (c .entry)))) ⌝ }
 {

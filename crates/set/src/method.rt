@@ -10,6 +10,7 @@ ghost use Rattle.format.specs.Parse.{result-at};
 ghost use Rattle.tables.specs.Spans.{part, Within};
 ghost use Rattle.tables.specs.Views.{methods-of, params-of, program-of};
 ghost use Rattle.set.specs.Progress.{mine, Tallied, MoreMethods, method-step};
+ghost use Rattle.format.specs.Limits.{all-classes, max-methods};
 use crate::items::at_most;
 use crate::items::read_type;
 use crate::names::NamedMethod;
@@ -40,7 +41,7 @@ fn read_result(
     params: Span,
     t: &Tables,
 ) -> Result<Ty, TableFault>
-    requires few { ⌜ n ≤ 32 ⌝ }
+    requires few { ⌜ n ≤ all-classes ⌝ }
     requires within { ⌜ Within (length (params-of (now t))) params ⌝ }
     ensures file { λ _. ⌜ file-of (now (c .exit)) ≡ file-of (now (c .entry)) ⌝ }
     ensures gave { λ r. ⌜ Gave r (place-of (now (c .exit))) (result-at (file-of (now (c .entry))) n (program-of (now (t .entry))) s name (part params (params-of (now (t .entry)))) (place-of (now (c .entry)))) ⌝ }
@@ -61,8 +62,8 @@ pub(crate) fn read_method(
     first: usize,
     t: &mut Tables,
 ) -> Result<(), TableFault>
-    requires few { ⌜ n ≤ 32 ⌝ }
-    requires room { ⌜ length (methods-of (now t)) < 64 ⌝ }
+    requires few { ⌜ n ≤ all-classes ⌝ }
+    requires room { ⌜ length (methods-of (now t)) < max-methods ⌝ }
     requires tallied { ⌜ Tallied first (now t) ⌝ }
     ensures file { λ _. ⌜ file-of (now (c .exit)) ≡ file-of (now (c .entry)) ⌝ }
     ensures tallied { λ r. ⌜ made r (λ _. Tallied first (now (t .exit))) ⌝ }

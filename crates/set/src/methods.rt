@@ -11,6 +11,7 @@ ghost use Rattle.format.specs.Reading.{Left, counted};
 ghost use Rattle.format.specs.Parse.{method-at, methods-at};
 ghost use Rattle.tables.specs.Views.{methods-of, program-of};
 ghost use Rattle.set.specs.Progress.{mine, Tallied, MoreMethods};
+ghost use Rattle.format.specs.Limits.{all-classes, max-methods};
 use crate::method::read_method;
 use crate::spans::read_more;
 use format::fault::TableFault;
@@ -29,8 +30,8 @@ fn add_methods(
     count: usize,
     t: &mut Tables,
 ) -> Result<(), TableFault>
-    requires few { ⌜ n ≤ 32 ⌝ }
-    requires room { ⌜ length (methods-of (now t)) + count ≤ 64 ⌝ }
+    requires few { ⌜ n ≤ all-classes ⌝ }
+    requires room { ⌜ length (methods-of (now t)) + count ≤ max-methods ⌝ }
     requires tallied { ⌜ Tallied first (now t) ⌝ }
     ensures file { λ _. ⌜ file-of (now (c .exit)) ≡ file-of (now (c .entry)) ⌝ }
     ensures tallied { λ r. ⌜ made r (λ _. Tallied first (now (t .exit))) ⌝ }
@@ -50,7 +51,7 @@ pub(crate) fn read_methods(
     s: ClassNumber,
     t: &mut Tables,
 ) -> Result<Span, TableFault>
-    requires few { ⌜ n ≤ 32 ⌝ }
+    requires few { ⌜ n ≤ all-classes ⌝ }
     requires whole { ⌜ count-methods (program-of (now t)) ≡ length (methods-of (now t)) ⌝ }
     requires tallied { ⌜ Tallied (length (methods-of (now t))) (now t) ⌝ }
     ensures file { λ _. ⌜ file-of (now (c .exit)) ≡ file-of (now (c .entry)) ⌝ }

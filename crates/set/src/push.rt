@@ -8,12 +8,13 @@ ghost use Rattle.tables.specs.Spans.{FieldsWithin, MethodsWithin, ParamsWithin,
 ghost use Rattle.tables.specs.Views.{classes-of, fields-of, methods-of, params-of, instrs-of, handlers-of, program-of};
 ghost use Rattle.set.specs.Grown.{OnlyClasses, OnlyMethods};
 ghost use Rattle.set.specs.Progress.{Empty};
+ghost use Rattle.format.specs.Limits.{max-classes, max-methods};
 use tables::records::ClassRec;
 use tables::records::MethodRec;
 use tables::tables::Tables;
 
 pub(crate) fn push_method(t: &mut Tables, m: MethodRec)
-    requires room { ⌜ length (methods-of (now t)) < 64 ⌝ }
+    requires room { ⌜ length (methods-of (now t)) < max-methods ⌝ }
     requires params { ⌜ ParamsWithin (length (params-of (now t))) m ⌝ }
     requires code { ⌜ CodeWithin (length (instrs-of (now t))) m ⌝ }
     requires handlers { ⌜ HandlersWithin (length (handlers-of (now t))) m ⌝ }
@@ -25,7 +26,7 @@ pub(crate) fn push_method(t: &mut Tables, m: MethodRec)
 }
 
 pub(crate) fn push_class(t: &mut Tables, k: ClassRec)
-    requires room { ⌜ length (classes-of (now t)) < 28 ⌝ }
+    requires room { ⌜ length (classes-of (now t)) < max-classes ⌝ }
     requires fields { ⌜ FieldsWithin (length (fields-of (now t))) k ⌝ }
     requires methods { ⌜ MethodsWithin (length (methods-of (now t))) k ⌝ }
     requires numbered { ⌜ chained 0 (classes-of (now t) ++ k ∷ []) ≡ true ⌝ }

@@ -6,7 +6,7 @@ ghost use lib.ListN.{length};
 ghost use Rattle.std.specs.Vec.{made};
 ghost use Rattle.number.specs.Numbers.{Gave};
 ghost use Rattle.number.specs.Places.{file-of, place-of};
-ghost use Rattle.format.specs.Limits.{max-params, max-fields};
+ghost use Rattle.format.specs.Limits.{max-params, max-fields, all-classes, all-fields, all-params, max-instrs};
 ghost use Rattle.format.specs.Reading.{then, counted};
 ghost use Rattle.format.specs.Parse.{params-at, code-at, handlers-at, field-at};
 ghost use Rattle.tables.specs.Views.{fields-of, params-of, instrs-of, handlers-of};
@@ -45,10 +45,10 @@ pub(crate) fn read_more(c: &mut Cursor, used: usize, most: usize) -> Result<usiz
 
 // The length of a method's code, where the set has `used` instructions.
 fn read_code_count(c: &mut Cursor, used: usize) -> Result<usize, TableFault>
-    requires { ⌜ used ≤ 1024 ⌝ }
+    requires { ⌜ used ≤ max-instrs ⌝ }
     ensures file { λ _. ⌜ file-of (now (c .exit)) ≡ file-of (now (c .entry)) ⌝ }
     ensures gave { λ r. ⌜ Gave r (place-of (now (c .exit))) (code-count-at (file-of (now (c .entry))) used (place-of (now (c .entry)))) ⌝ }
-    ensures most { λ r. ⌜ made r (λ k. used + k ≤ 1024) ⌝ }
+    ensures most { λ r. ⌜ made r (λ k. used + k ≤ max-instrs) ⌝ }
 {
     let start = c.place();
     let n = c.number()? as usize;
@@ -66,8 +66,8 @@ fn read_code_count(c: &mut Cursor, used: usize) -> Result<usize, TableFault>
 
 // The parameter types of a method.
 pub(crate) fn read_params(c: &mut Cursor, n: u32, t: &mut Tables) -> Result<Span, TableFault>
-    requires few { ⌜ n ≤ 32 ⌝ }
-    requires room { ⌜ length (params-of (now t)) + max-params ≤ 512 ⌝ }
+    requires few { ⌜ n ≤ all-classes ⌝ }
+    requires room { ⌜ length (params-of (now t)) + max-params ≤ all-params ⌝ }
     ensures file { λ _. ⌜ file-of (now (c .exit)) ≡ file-of (now (c .entry)) ⌝ }
     ensures rest { λ _. ⌜ OnlyParams (now (t .entry)) (now (t .exit)) ⌝ }
     ensures most { λ r. ⌜ made r (λ s. s .count ≤ max-params) ⌝ }
@@ -104,9 +104,9 @@ pub(crate) fn read_fields(
     inherited: usize,
     t: &mut Tables,
 ) -> Result<Span, TableFault>
-    requires few { ⌜ n ≤ 32 ⌝ }
+    requires few { ⌜ n ≤ all-classes ⌝ }
     requires above { ⌜ inherited ≤ 65536 ⌝ }
-    requires room { ⌜ length (fields-of (now t)) + max-fields ≤ 224 ⌝ }
+    requires room { ⌜ length (fields-of (now t)) + max-fields ≤ all-fields ⌝ }
     ensures file { λ _. ⌜ file-of (now (c .exit)) ≡ file-of (now (c .entry)) ⌝ }
     ensures rest { λ _. ⌜ OnlyFields (now (t .entry)) (now (t .exit)) ⌝ }
     ensures most { λ r. ⌜ made r (λ s. s .count ≤ max-fields) ⌝ }

@@ -6,6 +6,7 @@ ghost use lib.ListN.{length, take, drop};
 ghost use Rattle.number.specs.Numbers.{Gave};
 ghost use Rattle.number.specs.Places.{file-of, place-of};
 ghost use Rattle.format.specs.Reading.{Read, counted, Left};
+ghost use Rattle.format.specs.Limits.{all-classes};
 use format::fault::TableFault;
 use number::cursor::Cursor;
 
@@ -14,7 +15,7 @@ pub(crate) trait Item: Copy {
     ghost at: { List ℕ → ℕ → List Self → ℕ → Read Self };
 
     fn read(c: &mut Cursor, n: u32, mine: &[Self]) -> Result<Self, TableFault>
-        requires { ⌜ n ≤ 32 ⌝ }
+        requires { ⌜ n ≤ all-classes ⌝ }
         ensures file { λ _. ⌜ file-of (now (c .exit)) ≡ file-of (now (c .entry)) ⌝ }
         ensures gave { λ r. ⌜ Gave r (place-of (now (c .exit))) (at (file-of (now (c .entry))) n (now (mine .entry)) (place-of (now (c .entry)))) ⌝ };
 }
@@ -27,7 +28,7 @@ pub(crate) fn read_items<T: Item>(
     table: &mut [T],
     first: usize,
 ) -> Result<(), TableFault>
-    requires few { ⌜ n ≤ 32 ⌝ }
+    requires few { ⌜ n ≤ all-classes ⌝ }
     requires room { ⌜ first + count ≤ length (now table) ⌝ }
     ensures file { λ _. ⌜ file-of (now (c .exit)) ≡ file-of (now (c .entry)) ⌝ }
     ensures front { λ _. ⌜ take first (now (table .exit)) ≡ take first (now (table .entry)) ⌝ }

@@ -8,6 +8,7 @@ ghost use Rattle.format.specs.Reading.{Left};
 ghost use Rattle.format.specs.Parse.{classes-at, parse};
 ghost use Rattle.tables.specs.Views.{classes-of, program-of};
 ghost use Rattle.set.specs.Progress.{Full};
+ghost use Rattle.format.specs.Limits.{all-classes, max-classes};
 use crate::class::read_class;
 use crate::items::at_most;
 use crate::push::clear;
@@ -18,8 +19,8 @@ use tables::tables::Tables;
 
 // Reads `count` classes, and puts them behind those of the tables; `n` classes are named in all.
 fn read_classes(c: &mut Cursor, n: u32, count: u32, t: &mut Tables) -> Result<(), TableFault>
-    requires few { ⌜ n ≤ 32 ⌝ }
-    requires room { ⌜ length (classes-of (now t)) + count ≤ 28 ⌝ }
+    requires few { ⌜ n ≤ all-classes ⌝ }
+    requires room { ⌜ length (classes-of (now t)) + count ≤ max-classes ⌝ }
     requires full { ⌜ Full (now t) ⌝ }
     ensures file { λ _. ⌜ file-of (now (c .exit)) ≡ file-of (now (c .entry)) ⌝ }
     ensures full { λ r. ⌜ made r (λ _. Full (now (t .exit))) ⌝ }

@@ -1,4 +1,5 @@
 -- The record of a class in the tables, and how long a row of theirs can be.
+use Rattle.format.specs.Limits.{all-fields}
 use Prim.Native.Nat.{ℕ, _-_, _*_}
 use mathlib.Core.Bool.{cond}
 use lib.Dec.{ltb}
@@ -15,4 +16,4 @@ record-at t c = cond (ltb c 4) None (nth (classes-of t) (c - 4))
 
 -- no row is longer: at most 256 classes stand on the way up, with at most 224 fields each
 abbrev pub longest-row : ℕ
-longest-row = 256 * 224
+longest-row = 256 * all-fields

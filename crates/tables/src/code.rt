@@ -8,6 +8,7 @@ ghost use Rattle.jinja.specs.Classes.{maybe};
 ghost use Rattle.jinja.specs.Lookups.{method-at};
 ghost use Rattle.tables.specs.Views.{methods-of, program-of};
 ghost use Rattle.tables.specs.Methods.{method-of, params-in, code-in, handlers-in, Stands, Lacks, Whole, owner-of, unowned};
+ghost use Rattle.format.specs.Limits.{max-classes};
 use crate::classes::BUILT_IN;
 use crate::parts::item_at;
 use crate::parts::part_of;
@@ -92,7 +93,7 @@ impl Tables {
     // Where the record of the class that declares method `k` stands.
     fn owning_record(&self, k: usize) -> Option<usize>
         ensures owner { λ r. ⌜ owner-of (method-at (program-of (now (self .entry))) k) ≡ maybe r None (λ i. Some (4 + i)) ⌝ }
-        ensures few { λ r. ⌜ Cases r (Unit {0}) (λ i. i < 28) ⌝ }
+        ensures few { λ r. ⌜ Cases r (Unit {0}) (λ i. i < max-classes) ⌝ }
     {
         for i in 0..self.class_count {
             let methods = self.classes[i].methods;

@@ -9,6 +9,7 @@ ghost use Rattle.jinja.specs.Classes.{maybe, superclass-of};
 ghost use Rattle.jinja.specs.Lookups.{position, own-fields, own-field, fields-within, fields-of};
 ghost use Rattle.tables.specs.Records.{longest-row};
 ghost use Rattle.tables.specs.Views.{program-of};
+ghost use Rattle.format.specs.Limits.{all-fields};
 use crate::classes::OBJECT;
 use crate::parts::part_of;
 use crate::tables::Tables;
@@ -74,7 +75,7 @@ impl Tables {
     // The place among its own fields, and the type, of the field of that name that `c` declares.
     fn declared(&self, c: ClassNumber, name: Name) -> Option<(usize, Ty)>
         ensures field { λ r. ⌜ own-field (program-of (now (self .entry))) c name ≡ maybe r None (λ p. Some (record { place = length (fields-of (program-of (now (self .entry))) (superclass-of (program-of (now (self .entry))) c)) + p .0; ty = p .1 })) ⌝ }
-        ensures few { λ r. ⌜ Cases r (Unit {0}) (λ p. p .0 < 224) ⌝ }
+        ensures few { λ r. ⌜ Cases r (Unit {0}) (λ p. p .0 < all-fields) ⌝ }
     {
         let own = self.own_fields(c);
         let i = position_of_field(own, name)?;
@@ -103,7 +104,7 @@ impl Tables {
     // The fields that `c` itself declares.
     fn own_fields(&self, c: ClassNumber) -> &[Field]
         ensures fields { λ r. ⌜ now r ≡ own-fields (program-of (now (self .entry))) c ⌝ }
-        ensures few { λ r. ⌜ length (now r) ≤ 224 ⌝ }
+        ensures few { λ r. ⌜ length (now r) ≤ all-fields ⌝ }
     {
         match self.class(c) {
             Some(class) => part_of(&self.fields, class.fields),
