@@ -1,0 +1,21 @@
+//! The verifier: type rows of a method, the rule of each instruction over them, and the flow that they make.
+mod apply;
+mod calls;
+mod catch;
+mod edges;
+mod ends;
+mod handlers;
+pub mod laws;
+mod leads;
+mod method;
+mod node;
+mod objects;
+mod operands;
+mod places;
+mod refuse;
+mod registers;
+mod row;
+mod send;
+mod step;
+mod steps;
+mod types;
