@@ -1,0 +1,9 @@
+pub mod Reading
+pub mod Moves
+pub mod Tops
+pub mod Settled
+pub mod Handlers
+pub mod Landing
+pub mod HeapAnswers
+pub mod Fits
+pub mod Limited
