@@ -11,3 +11,9 @@ pub mod Solved
 pub mod Cut
 pub mod Typings
 pub mod EdgesSent
+pub mod JoinedNumbers
+pub mod Unreached
+pub mod JoinedTypes
+pub mod JoinedParts
+pub mod JoinedRows
+pub mod JoinedAnyway

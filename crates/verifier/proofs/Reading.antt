@@ -41,7 +41,7 @@ read-clash n xs l =
     let e : getD xs 0 0 ≡ suc (getD xs 0 0 - 1) = omega arith in
     ap (λ (a : ℕ). row-of-first n a xs) e ∙ ap (λ (b : Bool). cond b (merged (row-of-height n (getD xs 0 0 - 1) xs)) clash) (lt-leb (getD xs 0 0 - 1) 16 (omega arith))
 
-type-told : (P : Program) (t : Ty) → length (table P) ≤ 32 → TypeExists P t → type-number t < absent
+pub type-told : (P : Program) (t : Ty) → length (table P) ≤ 32 → TypeExists P t → type-number t < absent
 type-told P Void l e = omega arith
 type-told P Boolean l e = omega arith
 type-told P Integer l e = omega arith

@@ -15,6 +15,8 @@ pub mod Leading
 pub mod Stepping
 pub mod RowSteps
 pub mod Refusing
+pub mod Joining
 pub mod Sending
 pub mod TypeRows
 pub mod Typings
+pub mod Frameworks
