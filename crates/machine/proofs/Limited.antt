@@ -12,7 +12,8 @@ use Rattle.jinja.specs.Classes.{built-in, table, class-at}
 use Rattle.jinja.specs.Lookups.{Owned, method-at}
 use Rattle.format.specs.Rules.{keeps}
 use Rattle.format.proofs.Kept.{kept-method-at}
-use Rattle.format.proofs.Found.{conflict, some-inj, method-of-class}
+use Rattle.jinja.proofs.Options.{conflict, some-inj}
+use Rattle.format.proofs.Found.{method-of-class}
 use Rattle.machine.specs.Limits.{cell-limit, register-limit, Fitting}
 
 -- a class is built in, or one of the program's own
