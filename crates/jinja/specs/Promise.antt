@@ -38,7 +38,7 @@ pub record Promise (P : Program) (Φ : ℕ → Table) (h : Meaning) (number : �
   pub lines-stay : after P calls (made h number) .heap .lines ≡ h .lines
   pub charged : (i : ℕ) (l : ChargeLine) → nth (h .lines) i ≡ Some l → Charged P (after P calls (made h number) .heap) (objects-made P (h .lines) (events P calls (made h number)) []) l
 
--- for every program that keeps the rules and whose methods are typable, with their least well-typings, whatever the
+-- for every program that keeps the rules, given the least well-typing of each of its methods, whatever the
 -- lines of the heap, and every list of calls
 abbrev pub Histories-keep : Type 0
 Histories-keep = (P : Program) → WellFormed P → (Φ : ℕ → Table) → LeastTypings P Φ → (h : Meaning) (number : ℕ) (calls : List Call) → Promise P Φ h number calls

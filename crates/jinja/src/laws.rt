@@ -49,7 +49,8 @@ pub fn type_safety()
     ensures { λ _. ⌜ Type-safety ⌝ }
 {}
 
-/// The promise about histories: of every program whose methods are typable, over any heap, and after every list of calls.
+/// The promise about histories: of every program, given the least well-typing of each method, over any heap, and after
+/// every list of calls.
 pub fn histories_keep()
     ensures { λ _. ⌜ Histories-keep ⌝ }
 {}
