@@ -1,5 +1,7 @@
 // Reads the rule-set files of stdin, one a line in hexadecimal, and says of each what the reader answers and whether
 // the writer gives the same bytes. Lines that begin with # are labels. tests/reading_cases.py makes both streams.
+#![tactic(auto)]
+
 use anyhow::anyhow;
 use set::reader::read;
 use set::set::Set;

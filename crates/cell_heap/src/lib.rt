@@ -1,4 +1,6 @@
 //! The cell heap: objects of any length, one behind the other in a strip of cells.
+#![tactic(auto)]
+
 mod calls;
 mod cell;
 mod cells;

@@ -1,4 +1,6 @@
 //! The step of a running machine over any heap: frames in fixed memory, and each instruction on them.
+#![tactic(auto)]
+
 mod calling;
 mod catch;
 mod catching;

@@ -1,4 +1,6 @@
 // Heaps: objects under charge lines, one meaning for every heap.
+#![tactic(auto)]
+
 pub mod allowance;
 pub mod charge;
 pub mod fault;

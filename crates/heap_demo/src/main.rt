@@ -1,4 +1,6 @@
 // Fills each heap, alone and under allowances, to the limit of each charge line and one past it.
+#![tactic(auto)]
+
 mod fill;
 
 use cell_heap::CellHeap;

@@ -1,5 +1,7 @@
 // The subject: the types, literals and instructions of a rule set, the machine's answers, in specs/ what they mean, and
 // the theorems about them.
+#![tactic(auto)]
+
 pub mod answer;
 pub mod instr;
 pub mod laws;

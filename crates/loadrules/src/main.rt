@@ -1,4 +1,6 @@
 // The command: lists, checks and runs rule-set files.
+#![tactic(auto)]
+
 mod bench;
 mod check;
 mod desk;

@@ -1,4 +1,6 @@
 //! The machine: made from an accepted set over any heap, then begun, stepped, run, ended and looked at.
+#![tactic(auto)]
+
 mod begin;
 pub mod call;
 mod end;

@@ -1,4 +1,6 @@
 // Numbers of rule-set files: groups of seven bits, lowest first, read from a file and put into one.
+#![tactic(auto)]
+
 pub mod cursor;
 pub mod fault;
 pub mod laws;

@@ -1,4 +1,6 @@
 // The rule set in memory, and its reader.
+#![tactic(auto)]
+
 mod class;
 mod counted;
 mod grow;

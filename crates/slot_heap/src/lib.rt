@@ -1,4 +1,6 @@
 //! The slot heap: a slot for each object, whatever its row.
+#![tactic(auto)]
+
 mod calls;
 pub mod limits;
 mod slots;

@@ -1,4 +1,6 @@
 //! One bounded stack over cells that are handed in, for every kind of cell.
+#![tactic(auto)]
+
 ghost use Rattle.std.specs.Prelude.{◌≡◌, ◌≤◌, min, length};
 ghost use Rattle.stack.specs.Stacked.{Pushed, Popped, Seen, Discarded, Replaced};
 

@@ -1,4 +1,6 @@
 // The flat tables of a rule set, and what is looked up in them.
+#![tactic(auto)]
+
 pub mod classes;
 mod code;
 mod empty;

@@ -1,4 +1,6 @@
 // Two runs of one machine, each ended with its own ticket. The edits of misuse/ turn this file so that it does not compile.
+#![tactic(auto)]
+
 use heap::store::Heap;
 use jinja::answer::{Ended, Refusal};
 use jinja::program::{ClassNumber, Name};

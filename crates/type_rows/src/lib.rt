@@ -1,4 +1,6 @@
 //! Type rows of a method: the rule of each instruction over rows of numbers, their join, and the flow that they make.
+#![tactic(auto)]
+
 pub mod analysis;
 mod apply;
 mod calls;

@@ -1,4 +1,6 @@
 //! The verifier: which sets are accepted, and the least well-typing of each of their methods.
+#![tactic(auto)]
+
 pub mod accepted;
 pub mod fault;
 mod hold;

@@ -1,4 +1,6 @@
 //! One walk to a fixed point, over any rows with a join.
+#![tactic(auto)]
+
 ghost use Rattle.std.specs.Prelude.{◌≡◌};
 ghost use Rattle.walk.specs.Answers.{Answers};
 ghost use Rattle.walk.specs.Rows.{rest};

@@ -1,4 +1,6 @@
 //! How high the stack is before each step of a code, as an analysis of the walk.
+#![tactic(auto)]
+
 ghost use Rattle.walk.specs.Answers.{Answers};
 ghost use Rattle.walk_heights.specs.HeightLaws.{height_framework};
 

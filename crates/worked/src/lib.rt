@@ -1,4 +1,6 @@
 //! Worked examples: files, what loading them answers and what their runs come to, as one table that the definitions meet.
+#![tactic(auto)]
+
 ghost use Rattle.worked.specs.Examples.{ExamplesStand};
 
 /// Each example of the table stands: the file is accepted with these least well-typings or refused with this number at

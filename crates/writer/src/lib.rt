@@ -1,4 +1,6 @@
 // The writer: a rule set's file, put into a slice that is handed in.
+#![tactic(auto)]
+
 pub mod fault;
 mod items;
 pub mod limits;
