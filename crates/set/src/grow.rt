@@ -5,7 +5,7 @@ ghost use Rattle.format.specs.Reading.{counted};
 ghost use Rattle.format.specs.Parse.{type_at, instr_at, handler_at, field_at};
 ghost use Rattle.tables.specs.Views.{fields_of, params_of, instrs_of, handlers_of};
 ghost use Rattle.set.specs.Grown.{Grew, OnlyFields, OnlyParams, OnlyInstrs, OnlyHandlers};
-ghost use Rattle.format.specs.Limits.{all_classes, all_fields, all-params, max_handlers, max_instrs};
+ghost use Rattle.format.specs.Limits.{all_classes, all_fields, all_params, max_handlers, max_instrs};
 
 use crate::table::read_items;
 use format::fault::TableFault;
@@ -41,7 +41,7 @@ pub(crate) fn grow_params(
     t: &mut Tables,
 ) -> Result<Span, TableFault>
     requires few { n ≤ all_classes }
-    requires room { length (params_of t.old) + count ≤ all-params }
+    requires room { length (params_of t.old) + count ≤ all_params }
     ensures file { file_of c.new ≡ file_of c.old }
     ensures rest { OnlyParams t.old t.new }
     ensures size { IfOk result (λ s. s.count ≡ count) }

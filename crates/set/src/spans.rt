@@ -2,7 +2,7 @@
 ghost use Rattle.std.specs.Prelude.{◌≡◌, ◌+◌, ◌≤◌, [], length, IfOk};
 ghost use Rattle.number.specs.Numbers.{Gave};
 ghost use Rattle.number.specs.Places.{file_of, place_of};
-ghost use Rattle.format.specs.Limits.{max_params, max_fields, all_classes, all_fields, all-params, max_instrs};
+ghost use Rattle.format.specs.Limits.{max_params, max_fields, all_classes, all_fields, all_params, max_instrs};
 ghost use Rattle.format.specs.Reading.{then, counted};
 ghost use Rattle.format.specs.Parse.{params_at, code_at, handlers_at, field_at};
 ghost use Rattle.tables.specs.Views.{fields_of, params_of, instrs_of, handlers_of};
@@ -56,7 +56,7 @@ fn read_code_count(c: &mut Cursor, used: usize) -> Result<usize, TableFault>
 // The parameter types of a method.
 pub(crate) fn read_params(c: &mut Cursor, n: u32, t: &mut Tables) -> Result<Span, TableFault>
     requires few { n ≤ all_classes }
-    requires room { length (params_of t.old) + max_params ≤ all-params }
+    requires room { length (params_of t.old) + max_params ≤ all_params }
     ensures file { file_of c.new ≡ file_of c.old }
     ensures rest { OnlyParams t.old t.new }
     ensures most { IfOk result (λ s. s.count ≤ max_params) }

@@ -1,7 +1,7 @@
 // The flat tables of a rule set, each filled up to its count.
 ghost use Rattle.std.specs.Prelude.{◌≡◌, ◌≤◌, true, length, take};
 ghost use Rattle.std.specs.List.{AllWithin};
-ghost use Rattle.format.specs.Limits.{max_classes, all_fields, max_methods, all-params, max_instrs, max_handlers};
+ghost use Rattle.format.specs.Limits.{max_classes, all_fields, max_methods, all_params, max_instrs, max_handlers};
 ghost use Rattle.tables.specs.Spans.{FieldsWithin, MethodsWithin, ParamsWithin, CodeWithin, HandlersWithin, chained};
 
 use crate::records::{ClassRec, MethodRec};
@@ -35,13 +35,13 @@ pub struct Tables {
     ghost few_classes: { class_count ≤ max_classes },
     ghost few_fields: { field_count ≤ all_fields },
     ghost few_methods: { method_count ≤ max_methods },
-    ghost few_params: { param_count ≤ all-params },
+    ghost few_params: { param_count ≤ all_params },
     ghost few_instrs: { instr_count ≤ max_instrs },
     ghost few_handlers: { handler_count ≤ max_handlers },
     ghost all_classes: { length classes ≡ max_classes },
     ghost all_fields: { length fields ≡ all_fields },
     ghost all_methods: { length methods ≡ max_methods },
-    ghost all_params: { length params ≡ all-params },
+    ghost all_params: { length params ≡ all_params },
     ghost all_instrs: { length instrs ≡ max_instrs },
     ghost all_handlers: { length handlers ≡ max_handlers },
     ghost class_fields: { AllWithin (FieldsWithin field_count) classes 0 class_count },

@@ -3,7 +3,7 @@ use Rattle.std.proofs.lemmas.List.{take_all}
 use Rattle.heap.specs.Meaning.{cost, used}
 use Rattle.heap.proofs.Objects.{row_len_is, row_len_ok, row_short, used_more}
 use Rattle.heap.proofs.usage.used.Goals as goal
-use Rattle.heap.proofs.usage.used.Goals.{in-Ok, in-default}
+use Rattle.heap.proofs.usage.used.Goals.{in-Ok, in_default}
 
 pub cost-sum-requires : goal.cost-sum-requires
 cost-sum-requires g c =
@@ -19,11 +19,11 @@ loop-addr-preserved g c =
     let a = c.loop-addr.addr in
     let l : a < length m.objects = omega arith in
     let u = used_more m a l c.args.line in
-    elim c.match-row-len.branch [
+    elim c.match-row_len.branch [
       | in-Ok w ↦
           let k = ap (cost c.args.line) (row_len_is m a l w.in-Ok.n w.in-Ok.ensures) in
           (omega arith, omega arith)
-      | in-default w ↦ absurd (w.in-default.not-Ok _ (c.row-len.ensures ∙ row_len_ok m a l))
+      | in_default w ↦ absurd (w.in_default.not-Ok _ (c.row_len.ensures ∙ row_len_ok m a l))
     ]
 
 pub returns : goal.returns

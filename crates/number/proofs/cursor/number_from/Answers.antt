@@ -21,12 +21,12 @@ returns-then-padding c =
     let e = turn c.args.start c.loop-group.group c.loop-group.value c.loop-group.scale c.loop-group.at c.args.file.now (omega arith) in
     grind (arith, nat_tests)
 
-pub overflow-mul-result : goal.overflow-mul-result
-overflow-mul-result c =
+pub overflow_mul-result : goal.overflow_mul-result
+overflow_mul-result c =
     let p = last_fits c.loop-group.group c.loop-group.scale c.loop-group.value c.from.result c.loop-group.invariant.1 (omega arith) (omega arith) (omega arith) (grind arith) in omega arith
 
-pub overflow-add-result : goal.overflow-add-result
-overflow-add-result c =
+pub overflow_add-result : goal.overflow_add-result
+overflow_add-result c =
     let p = last_fits c.loop-group.group c.loop-group.scale c.loop-group.value c.from.result c.loop-group.invariant.1 (omega arith) (omega arith) (omega arith) (grind arith) in omega arith
 
 pub returns-then-b-lt-MORE : goal.returns-then-b-lt-MORE
@@ -43,16 +43,16 @@ module _ (c : goal.After-from-in-loop-group) where
   part = scale_part _ _ c.loop-group.invariant.1 below
 
   sum : c.loop-group.value + c.loop-group.scale * c.from-in-loop-group.result < c.loop-group.scale * 128
-  sum = more_fits _ _ _ (omega arith) (omega (arith, c.type-inv.file c.loop-group.at))
+  sum = more_fits _ _ _ (omega arith) (omega (arith, c.type_inv.file c.loop-group.at))
 
-pub overflow-mul-value : goal.overflow-mul-value
-overflow-mul-value c = omega (arith, part c, sum c)
+pub overflow_mul-value : goal.overflow_mul-value
+overflow_mul-value c = omega (arith, part c, sum c)
 
-pub overflow-add-value : goal.overflow-add-value
-overflow-add-value c = omega (arith, part c, sum c)
+pub overflow_add-value : goal.overflow_add-value
+overflow_add-value c = omega (arith, part c, sum c)
 
-pub overflow-mul-scale : goal.overflow-mul-scale
-overflow-mul-scale c = omega (arith, part c)
+pub overflow_mul-scale : goal.overflow_mul-scale
+overflow_mul-scale c = omega (arith, part c)
 
 pub loop-group-preserved : goal.loop-group-preserved
 loop-group-preserved c =

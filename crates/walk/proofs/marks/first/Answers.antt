@@ -8,7 +8,7 @@ returns-then-word-ne0 c =
     let ws = c.args.words.now in
     let w = c.loop-w.w in
     let p : 0 < get_or ws w 0 = omega arith in
-    found_marked ws w (c.type-inv.words w).fits p
+    found_marked ws w (c.type_inv.words w).fits p
 
 pub returns : goal.returns
 returns c = none_marked c.args.words.now (λ v l. c.loop-w.invariant v (omega arith))

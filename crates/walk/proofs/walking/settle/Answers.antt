@@ -6,8 +6,8 @@ use Rattle.walk.proofs.Theory.{settled_begin, inside_begin}
 use Rattle.walk.proofs.Weight.{weight_clear}
 use Rattle.walk.proofs.walking.settle.Goals as goal
 
-pub take-edges-requires : goal.take-edges-requires
-take-edges-requires g c =
+pub take_edges-requires : goal.take_edges-requires
+take_edges-requires g c =
     let m = g.A.Analysis.framework c.args.a.now in
     let v = c.loop-i.invariant in
     let i = c.in-Some.i in
@@ -33,5 +33,5 @@ loop-i-smaller g c =
     let at = c.in-Some.ensures in
     let t = c.clear.ensures in
     let falls = weight_clear m (table m c.loop-i.workspace) (marked c.loop-i.words) (marked c.clear.new.words) i (v.3 i at) at t.here t.other in
-    let less = c.take-edges.ensures.done.less in
+    let less = c.take_edges.ensures.done.less in
     omega arith

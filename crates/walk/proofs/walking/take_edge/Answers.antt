@@ -22,8 +22,8 @@ returns-in-Some g c =
     let r = c.raise.ensures in
     record { shown = r.shown; midway = midway_raised m p.held p.settled p.inside p.node p.clean p.edge c.in-Some.ensures.sends r.raised; behind = r.behind }
 
-pub returns-in-default : goal.returns-in-default
-returns-in-default g c =
+pub returns-in_default : goal.returns-in_default
+returns-in_default g c =
     let p = c.requires in
     let m = g.A.Analysis.framework c.args.a.now in
-    record { shown = p.shown; midway = midway_quiet m p.held p.settled p.inside c.in-default.ensures.sends; behind = refl }
+    record { shown = p.shown; midway = midway_quiet m p.held p.settled p.inside c.in_default.ensures.sends; behind = refl }

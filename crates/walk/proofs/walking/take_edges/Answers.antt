@@ -12,8 +12,8 @@ returns-then-has g c =
     let v = c.loop-e.invariant in
     record { shown = v.0; done = midway_done m v.1 (inl (sym c.has.ensures ∙ c.if-has.true)); behind = v.2 }
 
-pub take-edge-requires : goal.take-edge-requires
-take-edge-requires g c =
+pub take_edge-requires : goal.take_edge-requires
+take_edge-requires g c =
     let v = c.loop-e.invariant in
     record {
       node = c.requires.node;
@@ -32,7 +32,7 @@ pub loop-e-preserved : goal.loop-e-preserved
 loop-e-preserved g c =
     let m = g.A.Analysis.framework c.args.a.now in
     let v = c.loop-e.invariant in
-    let t = c.take-edge.ensures in
+    let t = c.take_edge.ensures in
     (t.shown, midway_on m v.1 t.midway, t.behind ∙ v.2)
 
 pub returns : goal.returns

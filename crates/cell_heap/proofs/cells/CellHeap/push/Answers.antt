@@ -8,17 +8,23 @@ use Rattle.cell_heap.proofs.cells.CellHeap.push.Goals as goal
 pub bounds-self-addr : goal.bounds-self-addr
 bounds-self-addr c = let f = cells_few c.args.self.now in omega arith
 
-pub overflow-add-self-3 : goal.overflow-add-self-3
-overflow-add-self-3 c = let f = cells_few c.args.self.now in omega arith
+pub overflow_add-self-3 : goal.overflow_add-self-3
+overflow_add-self-3 c = let f = cells_few c.args.self.now in omega arith
 
-pub invariant-of-self : goal.invariant-of-self
-invariant-of-self c =
+pub invariant_of-self : goal.invariant_of-self
+invariant_of-self c =
     let h = c.args.self.now in
     let f = cells_few h in
     let p = c.lay.ensures in
     let cs = c.lay.new.cells in
     let vs = c.args.row.now in
-    (search rules, (search rules, (omega arith, (top_after_push h cs c.args.class vs p.before p.class p.len p.fields, (index_after_push h cs c.args.class vs p.before p.class p.len p.fields (omega arith), tt)))))
+    record {
+      whole = search rules;
+      wide = search rules;
+      room = omega arith;
+      laid = top_after_push h cs c.args.class vs p.before p.class p.len p.fields;
+      indexed = index_after_push h cs c.args.class vs p.before p.class p.len p.fields (omega arith);
+    }
 
 pub returns : goal.returns
 returns c =

@@ -11,19 +11,19 @@ pub loop-rest-init : goal.loop-rest-init
 unfolding bytes
 loop-rest-init c = ([], 4, put_none _, refl, omega arith)
 
-pub returns-in-err-put : goal.returns-in-err-put
-returns-in-err-put c =
-    let p = err_from_is_err_and c.from-residual.result c.from-residual.ensures.1 in
+pub returns-in_err-put : goal.returns-in_err-put
+returns-in_err-put c =
+    let p = err_from_is_err_and c.from_residual.result c.from_residual.ensures.1 in
     let i = c.loop-rest.invariant in
     let g = step_bytes i.0 (bytes c.args.n) i.1 c.loop-rest.rest (omega arith) i.4 i.3 in
-    let f = full_front _ _ _ (bytes_by g.0 (c.loop-rest.rest / 128)) (put_full _ _ _ i.0 _ i.2 (simp c.lowest-group.ensures at c.in-err-put.ensures)) in
+    let f = full_front _ _ _ (bytes_by g.0 (c.loop-rest.rest / 128)) (put_full _ _ _ i.0 _ i.2 (simp c.lowest_group.ensures at c.in_err-put.ensures)) in
     rw p.1 (subst (Full _ _) g.1 f)
 
 pub loop-rest-preserved : goal.loop-rest-preserved
 loop-rest-preserved c =
     let i = c.loop-rest.invariant in
     let g = step_bytes i.0 (bytes c.args.n) i.1 c.loop-rest.rest (omega arith) i.4 i.3 in
-    (i.0 ++ (c.loop-rest.rest % 128 + 128) ∷ [], g.0, put_more _ _ _ i.0 _ i.2 (simp c.lowest-group.ensures at c.in-ok-put.ensures), g.1, g.2)
+    (i.0 ++ (c.loop-rest.rest % 128 + 128) ∷ [], g.0, put_more _ _ _ i.0 _ i.2 (simp c.lowest_group.ensures at c.in_ok-put.ensures), g.1, g.2)
 
 pub returns : goal.returns
 returns c =

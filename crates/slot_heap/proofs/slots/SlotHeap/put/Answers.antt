@@ -4,8 +4,8 @@ use Rattle.heap.specs.Calls.{with_objects}
 use Rattle.slot_heap.proofs.SlotObjects.{slot_row_short, row_of_slot, slots_put}
 use Rattle.slot_heap.proofs.slots.SlotHeap.put.Goals as goal
 
-pub offset-bounds-self-field : goal.offset-bounds-self-field
-offset-bounds-self-field c =
+pub offset_bounds-self-field : goal.offset_bounds-self-field
+offset_bounds-self-field c =
     let s = slot_row_short c.args.self.now c.args.addr c.requires.object in omega arith
 
 pub bounds-self-field : goal.bounds-self-field

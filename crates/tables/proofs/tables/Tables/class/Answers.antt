@@ -4,8 +4,8 @@ use Rattle.jinja.specs.Classes.{maybe}
 use Rattle.tables.proofs.Programs.{superclass_at, record_built_in, record_past, record_own}
 use Rattle.tables.proofs.tables.Tables.class.Goals as goal
 
-pub returns-then-c-lt-BUILT-IN : goal.returns-then-c-lt-BUILT-IN
-returns-then-c-lt-BUILT-IN c =
+pub returns-then-c-lt-BUILT_IN : goal.returns-then-c-lt-BUILT_IN
+returns-then-c-lt-BUILT_IN c =
     let e = record_built_in c.args.self.now c.args.c (omega arith) in
     record { «record» = sym e; superclass = superclass_at c.args.self.now c.args.c ∙ ap (λ r. maybe r 0 (λ d. d.superclass)) e; methods = tt; fields = tt }
 

@@ -8,7 +8,7 @@ use Rattle.tables.proofs.tables.Tables.climbs.Goals.{then-loop-at-test+then-at-n
 
 pub loop-at-preserved : goal.loop-at-preserved
 loop-at-preserved c =
-    rw c.superclass_at.ensures
+    rw c.superclass-at.ensures
     (sym (climbs_on (program_of c.args.self.now) c.loop-at.left c.loop-at.at c.args.d c.loop-at-test.true c.if-left-gt0.true) ∙ c.loop-at.invariant)
 
 pub returns : goal.returns

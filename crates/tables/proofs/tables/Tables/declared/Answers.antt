@@ -6,20 +6,20 @@ use Rattle.tables.specs.Views.{program_of}
 use Rattle.tables.proofs.Rows.{no_own_field, own_field_at}
 use Rattle.tables.proofs.tables.Tables.declared.Goals as goal
 
-pub returns-in-err-i : goal.returns-in-err-i
-returns-in-err-i c =
+pub returns-in_err-i : goal.returns-in_err-i
+returns-in_err-i c =
     let e : None ≡ position (λ (x : Field). x.name) c.args.name (own_fields (program_of c.args.self.now) c.args.c) =
-    c.in-err-i.ensures.place ∙ ap (position (λ (x : Field). x.name) c.args.name) c.own-fields-own.ensures.fields in
-    rw c.from-residual.ensures (record { field = no_own_field (program_of c.args.self.now) c.args.c c.args.name e; few = tt })
+    c.in_err-i.ensures.place ∙ ap (position (λ (x : Field). x.name) c.args.name) c.own_fields-own.ensures.fields in
+    rw c.from_residual.ensures (record { field = no_own_field (program_of c.args.self.now) c.args.c c.args.name e; few = tt })
 
 pub returns : goal.returns
 returns c =
     let P = program_of c.args.self.now in
-    let own = c.own-fields-own.ensures.fields in
-    let e : Some c.in-ok-i.i ≡ position (λ (x : Field). x.name) c.args.name (own_fields P c.args.c) =
-    c.in-ok-i.ensures.place ∙ ap (position (λ (x : Field). x.name) c.args.name) own in
+    let own = c.own_fields-own.ensures.fields in
+    let e : Some c.in_ok-i.i ≡ position (λ (x : Field). x.name) c.args.name (own_fields P c.args.c) =
+    c.in_ok-i.ensures.place ∙ ap (position (λ (x : Field). x.name) c.args.name) own in
     let l = ap length own in
     record {
-      field = rw own (own_field_at P c.args.c c.args.name c.in-ok-i.i _ e (omega (arith, c.in-ok-i.ensures.within)));
-      few = omega (arith, c.in-ok-i.ensures.within, c.own-fields-own.ensures.few);
+      field = rw own (own_field_at P c.args.c c.args.name c.in_ok-i.i _ e (omega (arith, c.in_ok-i.ensures.within)));
+      few = omega (arith, c.in_ok-i.ensures.within, c.own_fields-own.ensures.few);
     }

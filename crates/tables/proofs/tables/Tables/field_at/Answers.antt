@@ -8,37 +8,37 @@ use Rattle.tables.proofs.Rows.{row_ends, nth_row_own, row_above, length_row_abov
 use Rattle.tables.proofs.tables.Tables.field_at.Goals as goal
 
 pub returns-then-i-end : goal.returns-then-i-end
-returns-then-i-end c = sym (slice_get_past (fields_of (program_of c.args.self.now) c.args.c) c.args.i (omega (arith, c.row-len-end.ensures.len)))
+returns-then-i-end c = sym (slice_get_past (fields_of (program_of c.args.self.now) c.args.c) c.args.i (omega (arith, c.row_len-end.ensures.len)))
 
 pub loop-own-init : goal.loop-own-init
 unfolding fields_of
-loop-own-init c = (c.row-len-end.ensures.len, c.if-i-end.false, refl)
+loop-own-init c = (c.row_len-end.ensures.len, c.if-i-end.false, refl)
 
-pub overflow-sub-start : goal.overflow-sub-start
-overflow-sub-start c =
-    let own = ap length c.own-fields-own.ensures.fields in
+pub overflow_sub-start : goal.overflow_sub-start
+overflow_sub-start c =
+    let own = ap length c.own_fields-own.ensures.fields in
     omega (arith, row_ends (program_of c.args.self.now) c.loop-own.left c.loop-own.at, c.loop-own.invariant.0)
 
 pub returns-then-i-start : goal.returns-then-i-start
 unfolding fields_of
 returns-then-i-start c =
     let P = program_of c.args.self.now in
-    let own = ap length c.own-fields-own.ensures.fields in
-    let start = c.loop-own.end - length c.own-fields-own.result.now in
+    let own = ap length c.own_fields-own.ensures.fields in
+    let start = c.loop-own.end - length c.own_fields-own.result.now in
     let e : start ≡ length (fields_within P c.loop-own.left c.loop-own.at) - length (own_fields P c.loop-own.at) = omega (arith, c.loop-own.invariant.0) in
     let here : slice_get (fields_within P c.loop-own.left c.loop-own.at) c.args.i ≡ slice_get (own_fields P c.loop-own.at) (c.args.i - start) =
     nth_row_own P c.loop-own.left c.loop-own.at c.args.i start e c.if-i-start.true in
-    let in-own : c.args.i - start < length c.own-fields-own.result.now = omega (arith, c.loop-own.invariant.1) in
-    sym (sym c.loop-own.invariant.2 ∙ here ∙ ap (λ xs. slice_get xs (c.args.i - start)) (sym c.own-fields-own.ensures.fields) ∙ slice_get-get_or c.own-fields-own.result.now (c.args.i - start) _ in-own)
+    let in-own : c.args.i - start < length c.own_fields-own.result.now = omega (arith, c.loop-own.invariant.1) in
+    sym (sym c.loop-own.invariant.2 ∙ here ∙ ap (λ xs. slice_get xs (c.args.i - start)) (sym c.own_fields-own.ensures.fields) ∙ slice_get-get_or c.own_fields-own.result.now (c.args.i - start) _ in-own)
 
 pub loop-own-preserved : goal.loop-own-preserved
 loop-own-preserved c =
     let P = program_of c.args.self.now in
-    let own = ap length c.own-fields-own.ensures.fields in
-    let start = c.loop-own.end - length c.own-fields-own.result.now in
+    let own = ap length c.own_fields-own.ensures.fields in
+    let start = c.loop-own.end - length c.own_fields-own.result.now in
     let e : start ≡ length (fields_within P c.loop-own.left c.loop-own.at) - length (own_fields P c.loop-own.at) = omega (arith, c.loop-own.invariant.0) in
     let more = row_above P c.loop-own.left c.loop-own.at c.args.i start e c.if-i-start.false in
-    rw c.superclass_at.ensures (
+    rw c.superclass-at.ensures (
       length_row_above P c.loop-own.left c.loop-own.at start e more,
       c.if-i-start.false,
       sym (nth_row_above P c.loop-own.left c.loop-own.at c.args.i start e c.if-i-start.false) ∙ c.loop-own.invariant.2,

@@ -8,8 +8,8 @@ pub returns-in-Some : goal.returns-in-Some
 returns-in-Some c =
     let within = c.in-Some.ensures.fields in
     record {
-      fields = c.part-of.ensures ∙ sym (own_fields_at c.args.self.now c.args.c c.in-Some.class (sym c.in-Some.ensures.record) within);
-      few = omega (arith, simp length-take at (ap length c.part-of.ensures), within, c.args.self.now.few_fields);
+      fields = c.part_of.ensures ∙ sym (own_fields_at c.args.self.now c.args.c c.in-Some.class (sym c.in-Some.ensures.record) within);
+      few = omega (arith, simp length-take at (ap length c.part_of.ensures), within, c.args.self.now.few_fields);
     }
 
 pub returns-in-None : goal.returns-in-None

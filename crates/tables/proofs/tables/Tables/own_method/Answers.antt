@@ -6,21 +6,21 @@ use Rattle.tables.specs.declared.records.MethodRec.{MethodRec}
 use Rattle.tables.proofs.Numbering.{no_own_method, own_method_at}
 use Rattle.tables.proofs.tables.Tables.own_method.Goals as goal
 
-pub returns-in-err-class : goal.returns-in-err-class
-returns-in-err-class c = rw c.from-residual.ensures (sym (no_own_method c.args.self.now c.args.c c.args.name (sym c.in-err-class.ensures.record)))
+pub returns-in_err-class : goal.returns-in_err-class
+returns-in_err-class c = rw c.from_residual.ensures (sym (no_own_method c.args.self.now c.args.c c.args.name (sym c.in_err-class.ensures.record)))
 
-pub returns-in-err-i : goal.returns-in-err-i
-returns-in-err-i c =
-    let place = c.in-err-i.ensures.place ∙ ap (position (λ (x : MethodRec). x.name) c.args.name) c.part-of-own.ensures in
-    rw c.from-residual-in-err-i.ensures
-    (sym (own_method_at c.args.self.now c.args.c c.args.name c.in-ok-class.class None (sym c.in-ok-class.ensures.record) place))
+pub returns-in_err-i : goal.returns-in_err-i
+returns-in_err-i c =
+    let place = c.in_err-i.ensures.place ∙ ap (position (λ (x : MethodRec). x.name) c.args.name) c.part_of-own.ensures in
+    rw c.from_residual-in_err-i.ensures
+    (sym (own_method_at c.args.self.now c.args.c c.args.name c.in_ok-class.class None (sym c.in_ok-class.ensures.record) place))
 
-pub overflow-add-result : goal.overflow-add-result
-overflow-add-result c =
-    let own = simp length-take at (ap length c.part-of-own.ensures) in
-    omega (arith, c.in-ok-i.ensures.within, c.in-ok-class.ensures.methods, c.args.self.now.few_methods)
+pub overflow_add-result : goal.overflow_add-result
+overflow_add-result c =
+    let own = simp length-take at (ap length c.part_of-own.ensures) in
+    omega (arith, c.in_ok-i.ensures.within, c.in_ok-class.ensures.methods, c.args.self.now.few_methods)
 
 pub returns : goal.returns
 returns c =
-    let place = c.in-ok-i.ensures.place ∙ ap (position (λ (x : MethodRec). x.name) c.args.name) c.part-of-own.ensures in
-    sym (own_method_at c.args.self.now c.args.c c.args.name c.in-ok-class.class (Some c.in-ok-i.i) (sym c.in-ok-class.ensures.record) place)
+    let place = c.in_ok-i.ensures.place ∙ ap (position (λ (x : MethodRec). x.name) c.args.name) c.part_of-own.ensures in
+    sym (own_method_at c.args.self.now c.args.c c.args.name c.in_ok-class.class (Some c.in_ok-i.i) (sym c.in_ok-class.ensures.record) place)

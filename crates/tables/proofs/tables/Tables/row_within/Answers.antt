@@ -20,6 +20,6 @@ pub loop-at-preserved : goal.loop-at-preserved
 loop-at-preserved c =
     let P = program_of c.args.self.now in
     let e = simp length-append at (ap length (row_on P c.loop-at.left c.loop-at.at (omega arith))) in
-    let up = ap (λ d. length (fields_within P (c.loop-at.left - 1) d)) c.superclass_at.ensures in
+    let up = ap (λ d. length (fields_within P (c.loop-at.left - 1) d)) c.superclass-at.ensures in
     let own = ap length c.own_fields.ensures.fields in
     (omega (arith, c.loop-at.invariant.0), omega (arith, c.loop-at.invariant.1, c.own_fields.ensures.few))
