@@ -16,72 +16,72 @@ use Rattle.set.proofs.ClassWays.{no_superclass, no_fields, no_methods, one_class
 use Rattle.set.proofs.Ways.{moved}
 use Rattle.set.proofs.class.read_class.Goals as goal
 
-pub returns-in-err-superclass : goal.returns-in-err-superclass
-returns-in-err-superclass c =
+pub returns-in_err-superclass : goal.returns-in_err-superclass
+returns-in_err-superclass c =
     let t = c.args.t.now in
     let file = file_of c.args.c.now in
-    let p = err_from_is_err_and c.from-residual.result c.from-residual.ensures.1 in
+    let p = err_from_is_err_and c.from_residual.result c.from_residual.ensures.1 in
     rw (p.1, p.2) (record {
-      file = c.in-err-superclass.ensures.file;
+      file = c.in_err-superclass.ensures.file;
       full = tt;
       more = tt;
-      gave = no_superclass file c.args.n (program_of t) (place_of c.args.c.now) c.in-err-superclass.field-0.0 (ap (λ k. below_at file k (place_of c.args.c.now)) (known_classes t) ∙ c.in-err-superclass.ensures.gave);
+      gave = no_superclass file c.args.n (program_of t) (place_of c.args.c.now) c.in_err-superclass.field-0.0 (ap (λ k. below_at file k (place_of c.args.c.now)) (known_classes t) ∙ c.in_err-superclass.ensures.gave);
     })
 
-pub returns-in-err-fields : goal.returns-in-err-fields
-returns-in-err-fields c =
+pub returns-in_err-fields : goal.returns-in_err-fields
+returns-in_err-fields c =
     let t = c.args.t.now in
     let file = file_of c.args.c.now in
-    let a-superclass = ap (λ k. below_at file k (place_of c.args.c.now)) (known_classes t) ∙ c.in-ok-superclass.ensures.gave in
-    let f-superclass = c.in-ok-superclass.ensures.file in
-    let p = err_from_is_err_and c.from-residual-in-err-fields.result c.from-residual-in-err-fields.ensures.1 in
+    let a-superclass = ap (λ k. below_at file k (place_of c.args.c.now)) (known_classes t) ∙ c.in_ok-superclass.ensures.gave in
+    let f-superclass = c.in_ok-superclass.ensures.file in
+    let p = err_from_is_err_and c.from_residual-in_err-fields.result c.from_residual-in_err-fields.ensures.1 in
     rw (p.1, p.2) (record {
-      file = c.in-err-fields.ensures.file ∙ f-superclass;
+      file = c.in_err-fields.ensures.file ∙ f-superclass;
       full = tt;
       more = tt;
-      gave = no_fields file c.args.n (program_of t) (place_of c.args.c.now) _ _ a-superclass c.in-err-fields.field-0.0 (fields_counted file c.args.n (program_of t) c.in-ok-superclass.superclass (place_of c.read-superclass.new.c) c.row-len-inherited.result (sym c.row-len-inherited.ensures.len)
-          ∙ moved (λ x. then (more_at x c.row-len-inherited.result max_fields (place_of c.read-superclass.new.c)) (λ k q. counted (field_at x c.args.n) k [] q)) f-superclass c.in-err-fields.ensures.gave);
+      gave = no_fields file c.args.n (program_of t) (place_of c.args.c.now) _ _ a-superclass c.in_err-fields.field-0.0 (fields_counted file c.args.n (program_of t) c.in_ok-superclass.superclass (place_of c.read_superclass.new.c) c.row_len-inherited.result (sym c.row_len-inherited.ensures.len)
+          ∙ moved (λ x. then (more_at x c.row_len-inherited.result max_fields (place_of c.read_superclass.new.c)) (λ k q. counted (field_at x c.args.n) k [] q)) f-superclass c.in_err-fields.ensures.gave);
     })
 
-pub read-methods-requires : goal.read-methods-requires
-read-methods-requires c =
+pub read_methods-requires : goal.read_methods-requires
+read_methods-requires c =
     let t = c.args.t.now in
-    let u = c.read-fields.new.t in
-    let o = c.in-ok-fields.ensures.rest in
-    let b = c.in-ok-fields.ensures.gave.1 in
-    record { few = c.requires.few; whole = whole_fields t u c.in-ok-fields.fields o b c.requires.full; tallied = tallied_fields t u c.in-ok-fields.fields o b c.requires.full }
+    let u = c.read_fields.new.t in
+    let o = c.in_ok-fields.ensures.rest in
+    let b = c.in_ok-fields.ensures.gave.1 in
+    record { few = c.requires.few; whole = whole_fields t u c.in_ok-fields.fields o b c.requires.full; tallied = tallied_fields t u c.in_ok-fields.fields o b c.requires.full }
 
-pub returns-in-err-methods : goal.returns-in-err-methods
-returns-in-err-methods c =
+pub returns-in_err-methods : goal.returns-in_err-methods
+returns-in_err-methods c =
     let t = c.args.t.now in
     let file = file_of c.args.c.now in
-    let a-superclass = ap (λ k. below_at file k (place_of c.args.c.now)) (known_classes t) ∙ c.in-ok-superclass.ensures.gave in
-    let f-superclass = c.in-ok-superclass.ensures.file in
-    let a-fields = fields_counted file c.args.n (program_of t) c.in-ok-superclass.superclass (place_of c.read-superclass.new.c) c.row-len-inherited.result (sym c.row-len-inherited.ensures.len)
-    ∙ moved (λ x. then (more_at x c.row-len-inherited.result max_fields (place_of c.read-superclass.new.c)) (λ k q. counted (field_at x c.args.n) k [] q)) f-superclass c.in-ok-fields.ensures.gave.0 in
-    let f-fields = c.in-ok-fields.ensures.file ∙ f-superclass in
-    let kept = fields_kept t c.read-fields.new.t c.in-ok-fields.fields c.in-ok-fields.ensures.rest c.in-ok-fields.ensures.gave.1 in
-    let p = err_from_is_err_and c.from-residual-in-err-methods.result c.from-residual-in-err-methods.ensures.1 in
+    let a-superclass = ap (λ k. below_at file k (place_of c.args.c.now)) (known_classes t) ∙ c.in_ok-superclass.ensures.gave in
+    let f-superclass = c.in_ok-superclass.ensures.file in
+    let a-fields = fields_counted file c.args.n (program_of t) c.in_ok-superclass.superclass (place_of c.read_superclass.new.c) c.row_len-inherited.result (sym c.row_len-inherited.ensures.len)
+    ∙ moved (λ x. then (more_at x c.row_len-inherited.result max_fields (place_of c.read_superclass.new.c)) (λ k q. counted (field_at x c.args.n) k [] q)) f-superclass c.in_ok-fields.ensures.gave.0 in
+    let f-fields = c.in_ok-fields.ensures.file ∙ f-superclass in
+    let kept = fields_kept t c.read_fields.new.t c.in_ok-fields.fields c.in_ok-fields.ensures.rest c.in_ok-fields.ensures.gave.1 in
+    let p = err_from_is_err_and c.from_residual-in_err-methods.result c.from_residual-in_err-methods.ensures.1 in
     rw (p.1, p.2) (record {
-      file = c.in-err-methods.ensures.file ∙ f-fields;
+      file = c.in_err-methods.ensures.file ∙ f-fields;
       full = tt;
       more = tt;
-      gave = no_methods file c.args.n (program_of t) (place_of c.args.c.now) _ _ a-superclass _ _ a-fields c.in-err-methods.field-0.0 (moved (λ x. methods_at x c.args.n (program_of t) c.in-ok-superclass.superclass (place_of c.read-fields.new.c)) f-fields
-          (sym (ap (λ P. methods_at (file_of c.read-fields.new.c) c.args.n P c.in-ok-superclass.superclass (place_of c.read-fields.new.c)) kept) ∙ c.in-err-methods.ensures.gave));
+      gave = no_methods file c.args.n (program_of t) (place_of c.args.c.now) _ _ a-superclass _ _ a-fields c.in_err-methods.field-0.0 (moved (λ x. methods_at x c.args.n (program_of t) c.in_ok-superclass.superclass (place_of c.read_fields.new.c)) f-fields
+          (sym (ap (λ P. methods_at (file_of c.read_fields.new.c) c.args.n P c.in_ok-superclass.superclass (place_of c.read_fields.new.c)) kept) ∙ c.in_err-methods.ensures.gave));
     })
 
-pub push-class-requires : goal.push-class-requires
-push-class-requires c =
+pub push_class-requires : goal.push_class-requires
+push_class-requires c =
     let t = c.args.t.now in
-    let v = c.read-methods.new.t in
-    let o = c.in-ok-fields.ensures.rest in
-    let b = c.in-ok-fields.ensures.gave.1 in
-    let more = c.in-ok-methods.ensures.more in
-    let kept = fields_kept t c.read-fields.new.t c.in-ok-fields.fields o b in
-    let first : c.in-ok-methods.methods.first ≡ count_methods (program_of v) =
-    c.in-ok-methods.ensures.first ∙ (ap length o.methods ∙ (sym c.requires.full.whole ∙ sym (ap count_methods (more.program ∙ kept)))) in
-    let all : length (methods_of v) ≡ c.in-ok-methods.methods.first + c.in-ok-methods.methods.count = omega (arith, more.methods, c.in-ok-methods.ensures.first) in
-    let k : ClassRec = record { superclass = c.in-ok-superclass.superclass; fields = c.in-ok-fields.fields; methods = c.in-ok-methods.methods } in
+    let v = c.read_methods.new.t in
+    let o = c.in_ok-fields.ensures.rest in
+    let b = c.in_ok-fields.ensures.gave.1 in
+    let more = c.in_ok-methods.ensures.more in
+    let kept = fields_kept t c.read_fields.new.t c.in_ok-fields.fields o b in
+    let first : c.in_ok-methods.methods.first ≡ count_methods (program_of v) =
+    c.in_ok-methods.ensures.first ∙ (ap length o.methods ∙ (sym c.requires.full.whole ∙ sym (ap count_methods (more.program ∙ kept)))) in
+    let all : length (methods_of v) ≡ c.in_ok-methods.methods.first + c.in_ok-methods.methods.count = omega (arith, more.methods, c.in_ok-methods.ensures.first) in
+    let k : ClassRec = record { superclass = c.in_ok-superclass.superclass; fields = c.in_ok-fields.fields; methods = c.in_ok-methods.methods } in
     let same = more.classes ∙ o.classes in
     record {
       room = omega (arith, c.requires.room, ap length same);
@@ -94,31 +94,31 @@ pub returns : goal.returns
 returns c =
     let t = c.args.t.now in
     let file = file_of c.args.c.now in
-    let a-superclass = ap (λ k. below_at file k (place_of c.args.c.now)) (known_classes t) ∙ c.in-ok-superclass.ensures.gave in
-    let f-superclass = c.in-ok-superclass.ensures.file in
-    let a-fields = fields_counted file c.args.n (program_of t) c.in-ok-superclass.superclass (place_of c.read-superclass.new.c) c.row-len-inherited.result (sym c.row-len-inherited.ensures.len)
-    ∙ moved (λ x. then (more_at x c.row-len-inherited.result max_fields (place_of c.read-superclass.new.c)) (λ k q. counted (field_at x c.args.n) k [] q)) f-superclass c.in-ok-fields.ensures.gave.0 in
-    let f-fields = c.in-ok-fields.ensures.file ∙ f-superclass in
-    let v = c.read-methods.new.t in
-    let o = c.in-ok-fields.ensures.rest in
-    let b = c.in-ok-fields.ensures.gave.1 in
-    let more = c.in-ok-methods.ensures.more in
-    let kept = fields_kept t c.read-fields.new.t c.in-ok-fields.fields o b in
-    let first : c.in-ok-methods.methods.first ≡ count_methods (program_of v) =
-    c.in-ok-methods.ensures.first ∙ (ap length o.methods ∙ (sym c.requires.full.whole ∙ sym (ap count_methods (more.program ∙ kept)))) in
-    let all : length (methods_of v) ≡ c.in-ok-methods.methods.first + c.in-ok-methods.methods.count = omega (arith, more.methods, c.in-ok-methods.ensures.first) in
-    let k : ClassRec = record { superclass = c.in-ok-superclass.superclass; fields = c.in-ok-fields.fields; methods = c.in-ok-methods.methods } in
+    let a-superclass = ap (λ k. below_at file k (place_of c.args.c.now)) (known_classes t) ∙ c.in_ok-superclass.ensures.gave in
+    let f-superclass = c.in_ok-superclass.ensures.file in
+    let a-fields = fields_counted file c.args.n (program_of t) c.in_ok-superclass.superclass (place_of c.read_superclass.new.c) c.row_len-inherited.result (sym c.row_len-inherited.ensures.len)
+    ∙ moved (λ x. then (more_at x c.row_len-inherited.result max_fields (place_of c.read_superclass.new.c)) (λ k q. counted (field_at x c.args.n) k [] q)) f-superclass c.in_ok-fields.ensures.gave.0 in
+    let f-fields = c.in_ok-fields.ensures.file ∙ f-superclass in
+    let v = c.read_methods.new.t in
+    let o = c.in_ok-fields.ensures.rest in
+    let b = c.in_ok-fields.ensures.gave.1 in
+    let more = c.in_ok-methods.ensures.more in
+    let kept = fields_kept t c.read_fields.new.t c.in_ok-fields.fields o b in
+    let first : c.in_ok-methods.methods.first ≡ count_methods (program_of v) =
+    c.in_ok-methods.ensures.first ∙ (ap length o.methods ∙ (sym c.requires.full.whole ∙ sym (ap count_methods (more.program ∙ kept)))) in
+    let all : length (methods_of v) ≡ c.in_ok-methods.methods.first + c.in_ok-methods.methods.count = omega (arith, more.methods, c.in_ok-methods.ensures.first) in
+    let k : ClassRec = record { superclass = c.in_ok-superclass.superclass; fields = c.in_ok-fields.fields; methods = c.in_ok-methods.methods } in
     let same = more.classes ∙ o.classes in
-    let a-methods = moved (λ x. methods_at x c.args.n (program_of t) c.in-ok-superclass.superclass (place_of c.read-fields.new.c)) f-fields
-    (sym (ap (λ P. methods_at (file_of c.read-fields.new.c) c.args.n P c.in-ok-superclass.superclass (place_of c.read-fields.new.c)) kept) ∙ c.in-ok-methods.ensures.gave) in
-    let u = c.push-class.new.t in
-    let classes = c.push-class.ensures.classes in
-    let few : length (fields_of v) ≤ max_fields * (length (classes_of v) + 1) = omega (arith, c.requires.full.fields, b.all, b.first, ap length more.fields, ap length same, c.in-ok-fields.ensures.most) in
-    let program = program_push v u k c.push-class.ensures.rest classes in
+    let a-methods = moved (λ x. methods_at x c.args.n (program_of t) c.in_ok-superclass.superclass (place_of c.read_fields.new.c)) f-fields
+    (sym (ap (λ P. methods_at (file_of c.read_fields.new.c) c.args.n P c.in_ok-superclass.superclass (place_of c.read_fields.new.c)) kept) ∙ c.in_ok-methods.ensures.gave) in
+    let u = c.push_class.new.t in
+    let classes = c.push_class.ensures.classes in
+    let few : length (fields_of v) ≤ max_fields * (length (classes_of v) + 1) = omega (arith, c.requires.full.fields, b.all, b.first, ap length more.fields, ap length same, c.in_ok-fields.ensures.most) in
+    let program = program_push v u k c.push_class.ensures.rest classes in
     record {
-      file = c.in-ok-methods.ensures.file ∙ f-fields;
-      full = full_push v u k c.push-class.ensures.rest classes c.in-ok-methods.ensures.tallied first all few;
+      file = c.in_ok-methods.ensures.file ∙ f-fields;
+      full = full_push v u k c.push_class.ensures.rest classes c.in_ok-methods.ensures.tallied first all few;
       more = ap length classes ∙ (length_push (classes_of v) k ∙ ap (λ n. n + 1) (ap length same));
       gave = one_class file c.args.n (program_of t) (place_of c.args.c.now) _ _ a-superclass _ _ a-fields _ _ a-methods
-          ∙ ap (λ P. Ok (P, place_of c.read-methods.new.c)) (sym (program ∙ class_as _ _ _ _ (method_views v) _ k (more.program ∙ kept) more.fields (part_mine v c.in-ok-methods.methods all)));
+          ∙ ap (λ P. Ok (P, place_of c.read_methods.new.c)) (sym (program ∙ class_as _ _ _ _ (method_views v) _ k (more.program ∙ kept) more.fields (part_mine v c.in_ok-methods.methods all)));
     }

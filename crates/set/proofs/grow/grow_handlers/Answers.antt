@@ -9,13 +9,13 @@ pub returns : goal.returns
 returns c =
     let t = c.args.t.now in
     let room : t.handler_count + c.args.count ≤ length t.handlers = omega (arith, c.requires.room, count_handlers t, t.all_handlers) in
-    let front = c.in-ok-read-items.ensures.front in
-    let same = c.read-items.auto.table in
+    let front = c.in_ok-read_items.ensures.front in
+    let same = c.read_items.auto.table in
     record {
-      file = c.in-ok-read-items.ensures.file;
+      file = c.in_ok-read_items.ensures.file;
       rest = record { classes = refl; fields = refl; methods = refl; params = refl; instrs = refl };
       gave = (
-        c.in-ok-read-items.ensures.gave ∙ sym (ap (λ xs. Ok (xs, place_of c.read-items.new.c)) (end_part t.handlers c.read-items.new.table t.handler_count c.args.count room same front)),
-        end_behind t.handlers c.read-items.new.table t.handler_count c.args.count room same front,
+        c.in_ok-read_items.ensures.gave ∙ sym (ap (λ xs. Ok (xs, place_of c.read_items.new.c)) (end_part t.handlers c.read_items.new.table t.handler_count c.args.count room same front)),
+        end_behind t.handlers c.read_items.new.table t.handler_count c.args.count room same front,
       );
     }

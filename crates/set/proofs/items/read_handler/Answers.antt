@@ -3,25 +3,25 @@ use Rattle.std.proofs.Common.{rules}
 use Rattle.format.specs.Parse.{handler_at}
 use Rattle.set.proofs.items.read_handler.Goals as goal
 
-pub returns-in-err-first : goal.returns-in-err-first
+pub returns-in_err-first : goal.returns-in_err-first
 unfolding handler_at
-returns-in-err-first c = search rules
+returns-in_err-first c = search rules
 
-pub returns-in-err-end : goal.returns-in-err-end
+pub returns-in_err-end : goal.returns-in_err-end
 unfolding handler_at
-returns-in-err-end c = search rules
+returns-in_err-end c = search rules
 
-pub returns-in-err-class : goal.returns-in-err-class
+pub returns-in_err-class : goal.returns-in_err-class
 unfolding handler_at
-returns-in-err-class c = search rules
+returns-in_err-class c = search rules
 
-pub returns-in-err-target : goal.returns-in-err-target
+pub returns-in_err-target : goal.returns-in_err-target
 unfolding handler_at
-returns-in-err-target c = search rules
+returns-in_err-target c = search rules
 
-pub returns-in-err-depth : goal.returns-in-err-depth
+pub returns-in_err-depth : goal.returns-in_err-depth
 unfolding handler_at
-returns-in-err-depth c = search rules
+returns-in_err-depth c = search rules
 
 pub returns : goal.returns
 unfolding handler_at

@@ -4,6 +4,6 @@ use Rattle.format.specs.Rules.{keeps}
 use Rattle.jinja.specs.Lookups.{count_methods}
 use Rattle.set.proofs.make.of_nothing.Goals as goal
 
-pub invariant-of-result : goal.invariant-of-result
+pub invariant_of-result : goal.invariant_of-result
 unfolding keeps
-invariant-of-result c = (ap keeps c.requires.program, (ap count_methods c.requires.program ∙ sym (ap length c.requires.methods), tt))
+invariant_of-result c = (ap keeps c.requires.program, (ap count_methods c.requires.program ∙ sym (ap length c.requires.methods), tt))

@@ -16,204 +16,204 @@ use Rattle.set.proofs.Added.{names_mine, behind_as, behind_within, params_extend
 use Rattle.set.proofs.Ways.{moved, no_name, no_params, no_result, no_height, no_extras, no_code, no_handlers, one_more}
 use Rattle.set.proofs.method.read_method.Goals as goal
 
-pub returns-in-err-name : goal.returns-in-err-name
-returns-in-err-name c =
+pub returns-in_err-name : goal.returns-in_err-name
+returns-in_err-name c =
     let t = c.args.t.now in
     let file = file_of c.args.c.now in
-    let p = err_from_is_err_and c.from-residual.result c.from-residual.ensures.1 in
+    let p = err_from_is_err_and c.from_residual.result c.from_residual.ensures.1 in
     rw (p.1, p.2) (record {
-      file = c.in-err-name.ensures.file;
+      file = c.in_err-name.ensures.file;
       tallied = tt;
       more = tt;
-      gave = no_name file c.args.n (program_of t) c.args.s (mine c.args.first t) (place_of c.args.c.now) c.in-err-name.field-0.0 (names_mine file t c.args.first (place_of c.args.c.now) c.requires.tallied.within ∙ c.in-err-name.ensures.gave);
+      gave = no_name file c.args.n (program_of t) c.args.s (mine c.args.first t) (place_of c.args.c.now) c.in_err-name.field-0.0 (names_mine file t c.args.first (place_of c.args.c.now) c.requires.tallied.within ∙ c.in_err-name.ensures.gave);
     })
 
-pub returns-in-err-params : goal.returns-in-err-params
-returns-in-err-params c =
+pub returns-in_err-params : goal.returns-in_err-params
+returns-in_err-params c =
     let t = c.args.t.now in
     let file = file_of c.args.c.now in
-    let a-name = names_mine file t c.args.first (place_of c.args.c.now) c.requires.tallied.within ∙ c.in-ok-name.ensures.gave in
-    let f-name = c.in-ok-name.ensures.file in
-    let p = err_from_is_err_and c.from-residual-in-err-params.result c.from-residual-in-err-params.ensures.1 in
+    let a-name = names_mine file t c.args.first (place_of c.args.c.now) c.requires.tallied.within ∙ c.in_ok-name.ensures.gave in
+    let f-name = c.in_ok-name.ensures.file in
+    let p = err_from_is_err_and c.from_residual-in_err-params.result c.from_residual-in_err-params.ensures.1 in
     rw (p.1, p.2) (record {
-      file = c.in-err-params.ensures.file ∙ f-name;
+      file = c.in_err-params.ensures.file ∙ f-name;
       tallied = tt;
       more = tt;
-      gave = no_params file c.args.n (program_of t) c.args.s (mine c.args.first t) (place_of c.args.c.now) _ _ a-name c.in-err-params.field-0.0 (moved (λ x. params_at x c.args.n (place_of c.read-name.new.c)) f-name c.in-err-params.ensures.gave);
+      gave = no_params file c.args.n (program_of t) c.args.s (mine c.args.first t) (place_of c.args.c.now) _ _ a-name c.in_err-params.field-0.0 (moved (λ x. params_at x c.args.n (place_of c.read_name.new.c)) f-name c.in_err-params.ensures.gave);
     })
 
-pub returns-in-err-result : goal.returns-in-err-result
-returns-in-err-result c =
+pub returns-in_err-result : goal.returns-in_err-result
+returns-in_err-result c =
     let t = c.args.t.now in
     let file = file_of c.args.c.now in
-    let a-name = names_mine file t c.args.first (place_of c.args.c.now) c.requires.tallied.within ∙ c.in-ok-name.ensures.gave in
-    let f-name = c.in-ok-name.ensures.file in
-    let a-params = moved (λ x. params_at x c.args.n (place_of c.read-name.new.c)) f-name c.in-ok-params.ensures.gave.0 in
-    let f-params = c.in-ok-params.ensures.file ∙ f-name in
-    let ps = part c.in-ok-params.params (params_of c.read-params.new.t) in
-    let kept = program_kept t c.read-params.new.t (params_extend t c.read-params.new.t c.in-ok-params.params c.in-ok-params.ensures.rest c.in-ok-params.ensures.gave.1) in
-    let p = err_from_is_err_and c.from-residual-in-err-result.result c.from-residual-in-err-result.ensures.1 in
+    let a-name = names_mine file t c.args.first (place_of c.args.c.now) c.requires.tallied.within ∙ c.in_ok-name.ensures.gave in
+    let f-name = c.in_ok-name.ensures.file in
+    let a-params = moved (λ x. params_at x c.args.n (place_of c.read_name.new.c)) f-name c.in_ok-params.ensures.gave.0 in
+    let f-params = c.in_ok-params.ensures.file ∙ f-name in
+    let ps = part c.in_ok-params.params (params_of c.read_params.new.t) in
+    let kept = program_kept t c.read_params.new.t (params_extend t c.read_params.new.t c.in_ok-params.params c.in_ok-params.ensures.rest c.in_ok-params.ensures.gave.1) in
+    let p = err_from_is_err_and c.from_residual-in_err-result.result c.from_residual-in_err-result.ensures.1 in
     rw (p.1, p.2) (record {
-      file = c.in-err-result.ensures.file ∙ f-params;
+      file = c.in_err-result.ensures.file ∙ f-params;
       tallied = tt;
       more = tt;
-      gave = no_result file c.args.n (program_of t) c.args.s (mine c.args.first t) (place_of c.args.c.now) _ _ a-name _ _ a-params c.in-err-result.field-0.0 (moved (λ x. result_at x c.args.n (program_of t) c.args.s c.in-ok-name.name ps (place_of c.read-params.new.c)) f-params
-          (sym (ap (λ P. result_at (file_of c.read-params.new.c) c.args.n P c.args.s c.in-ok-name.name ps (place_of c.read-params.new.c)) kept) ∙ c.in-err-result.ensures.gave));
+      gave = no_result file c.args.n (program_of t) c.args.s (mine c.args.first t) (place_of c.args.c.now) _ _ a-name _ _ a-params c.in_err-result.field-0.0 (moved (λ x. result_at x c.args.n (program_of t) c.args.s c.in_ok-name.name ps (place_of c.read_params.new.c)) f-params
+          (sym (ap (λ P. result_at (file_of c.read_params.new.c) c.args.n P c.args.s c.in_ok-name.name ps (place_of c.read_params.new.c)) kept) ∙ c.in_err-result.ensures.gave));
     })
 
-pub returns-in-err-height : goal.returns-in-err-height
-returns-in-err-height c =
+pub returns-in_err-height : goal.returns-in_err-height
+returns-in_err-height c =
     let t = c.args.t.now in
     let file = file_of c.args.c.now in
-    let a-name = names_mine file t c.args.first (place_of c.args.c.now) c.requires.tallied.within ∙ c.in-ok-name.ensures.gave in
-    let f-name = c.in-ok-name.ensures.file in
-    let a-params = moved (λ x. params_at x c.args.n (place_of c.read-name.new.c)) f-name c.in-ok-params.ensures.gave.0 in
-    let f-params = c.in-ok-params.ensures.file ∙ f-name in
-    let ps = part c.in-ok-params.params (params_of c.read-params.new.t) in
-    let kept = program_kept t c.read-params.new.t (params_extend t c.read-params.new.t c.in-ok-params.params c.in-ok-params.ensures.rest c.in-ok-params.ensures.gave.1) in
-    let a-result = moved (λ x. result_at x c.args.n (program_of t) c.args.s c.in-ok-name.name ps (place_of c.read-params.new.c)) f-params
-    (sym (ap (λ P. result_at (file_of c.read-params.new.c) c.args.n P c.args.s c.in-ok-name.name ps (place_of c.read-params.new.c)) kept) ∙ c.in-ok-result.ensures.gave) in
-    let f-result = c.in-ok-result.ensures.file ∙ f-params in
-    let p = err_from_is_err_and c.from-residual-in-err-height.result c.from-residual-in-err-height.ensures.1 in
+    let a-name = names_mine file t c.args.first (place_of c.args.c.now) c.requires.tallied.within ∙ c.in_ok-name.ensures.gave in
+    let f-name = c.in_ok-name.ensures.file in
+    let a-params = moved (λ x. params_at x c.args.n (place_of c.read_name.new.c)) f-name c.in_ok-params.ensures.gave.0 in
+    let f-params = c.in_ok-params.ensures.file ∙ f-name in
+    let ps = part c.in_ok-params.params (params_of c.read_params.new.t) in
+    let kept = program_kept t c.read_params.new.t (params_extend t c.read_params.new.t c.in_ok-params.params c.in_ok-params.ensures.rest c.in_ok-params.ensures.gave.1) in
+    let a-result = moved (λ x. result_at x c.args.n (program_of t) c.args.s c.in_ok-name.name ps (place_of c.read_params.new.c)) f-params
+    (sym (ap (λ P. result_at (file_of c.read_params.new.c) c.args.n P c.args.s c.in_ok-name.name ps (place_of c.read_params.new.c)) kept) ∙ c.in_ok-result.ensures.gave) in
+    let f-result = c.in_ok-result.ensures.file ∙ f-params in
+    let p = err_from_is_err_and c.from_residual-in_err-height.result c.from_residual-in_err-height.ensures.1 in
     rw (p.1, p.2) (record {
-      file = c.in-err-height.ensures.file ∙ f-result;
+      file = c.in_err-height.ensures.file ∙ f-result;
       tallied = tt;
       more = tt;
-      gave = no_height file c.args.n (program_of t) c.args.s (mine c.args.first t) (place_of c.args.c.now) _ _ a-name _ _ a-params _ _ a-result c.in-err-height.field-0.0 (moved (λ x. at_most x max_height (place_of c.read-result.new.c)) f-result c.in-err-height.ensures.gave);
+      gave = no_height file c.args.n (program_of t) c.args.s (mine c.args.first t) (place_of c.args.c.now) _ _ a-name _ _ a-params _ _ a-result c.in_err-height.field-0.0 (moved (λ x. at_most x max_height (place_of c.read_result.new.c)) f-result c.in_err-height.ensures.gave);
     })
 
-pub returns-in-err-extras : goal.returns-in-err-extras
-returns-in-err-extras c =
+pub returns-in_err-extras : goal.returns-in_err-extras
+returns-in_err-extras c =
     let t = c.args.t.now in
     let file = file_of c.args.c.now in
-    let a-name = names_mine file t c.args.first (place_of c.args.c.now) c.requires.tallied.within ∙ c.in-ok-name.ensures.gave in
-    let f-name = c.in-ok-name.ensures.file in
-    let a-params = moved (λ x. params_at x c.args.n (place_of c.read-name.new.c)) f-name c.in-ok-params.ensures.gave.0 in
-    let f-params = c.in-ok-params.ensures.file ∙ f-name in
-    let ps = part c.in-ok-params.params (params_of c.read-params.new.t) in
-    let kept = program_kept t c.read-params.new.t (params_extend t c.read-params.new.t c.in-ok-params.params c.in-ok-params.ensures.rest c.in-ok-params.ensures.gave.1) in
-    let a-result = moved (λ x. result_at x c.args.n (program_of t) c.args.s c.in-ok-name.name ps (place_of c.read-params.new.c)) f-params
-    (sym (ap (λ P. result_at (file_of c.read-params.new.c) c.args.n P c.args.s c.in-ok-name.name ps (place_of c.read-params.new.c)) kept) ∙ c.in-ok-result.ensures.gave) in
-    let f-result = c.in-ok-result.ensures.file ∙ f-params in
-    let a-height = moved (λ x. at_most x max_height (place_of c.read-result.new.c)) f-result c.in-ok-height.ensures.gave in
-    let f-height = c.in-ok-height.ensures.file ∙ f-result in
-    let p = err_from_is_err_and c.from-residual-in-err-extras.result c.from-residual-in-err-extras.ensures.1 in
+    let a-name = names_mine file t c.args.first (place_of c.args.c.now) c.requires.tallied.within ∙ c.in_ok-name.ensures.gave in
+    let f-name = c.in_ok-name.ensures.file in
+    let a-params = moved (λ x. params_at x c.args.n (place_of c.read_name.new.c)) f-name c.in_ok-params.ensures.gave.0 in
+    let f-params = c.in_ok-params.ensures.file ∙ f-name in
+    let ps = part c.in_ok-params.params (params_of c.read_params.new.t) in
+    let kept = program_kept t c.read_params.new.t (params_extend t c.read_params.new.t c.in_ok-params.params c.in_ok-params.ensures.rest c.in_ok-params.ensures.gave.1) in
+    let a-result = moved (λ x. result_at x c.args.n (program_of t) c.args.s c.in_ok-name.name ps (place_of c.read_params.new.c)) f-params
+    (sym (ap (λ P. result_at (file_of c.read_params.new.c) c.args.n P c.args.s c.in_ok-name.name ps (place_of c.read_params.new.c)) kept) ∙ c.in_ok-result.ensures.gave) in
+    let f-result = c.in_ok-result.ensures.file ∙ f-params in
+    let a-height = moved (λ x. at_most x max_height (place_of c.read_result.new.c)) f-result c.in_ok-height.ensures.gave in
+    let f-height = c.in_ok-height.ensures.file ∙ f-result in
+    let p = err_from_is_err_and c.from_residual-in_err-extras.result c.from_residual-in_err-extras.ensures.1 in
     rw (p.1, p.2) (record {
-      file = c.in-err-extras.ensures.file ∙ f-height;
+      file = c.in_err-extras.ensures.file ∙ f-height;
       tallied = tt;
       more = tt;
-      gave = no_extras file c.args.n (program_of t) c.args.s (mine c.args.first t) (place_of c.args.c.now) _ _ a-name _ _ a-params _ _ a-result _ _ a-height c.in-err-extras.field-0.0 (moved (λ x. extras_at x (length ps) (place_of c.at-most.new.c)) f-height
-          (ap (λ k. extras_at (file_of c.at-most.new.c) k (place_of c.at-most.new.c)) (length_part c.in-ok-params.params (params_of c.read-params.new.t) (behind_within c.in-ok-params.ensures.gave.1)) ∙ c.in-err-extras.ensures.gave));
+      gave = no_extras file c.args.n (program_of t) c.args.s (mine c.args.first t) (place_of c.args.c.now) _ _ a-name _ _ a-params _ _ a-result _ _ a-height c.in_err-extras.field-0.0 (moved (λ x. extras_at x (length ps) (place_of c.at_most.new.c)) f-height
+          (ap (λ k. extras_at (file_of c.at_most.new.c) k (place_of c.at_most.new.c)) (length_part c.in_ok-params.params (params_of c.read_params.new.t) (behind_within c.in_ok-params.ensures.gave.1)) ∙ c.in_err-extras.ensures.gave));
     })
 
-pub returns-in-err-code : goal.returns-in-err-code
-returns-in-err-code c =
+pub returns-in_err-code : goal.returns-in_err-code
+returns-in_err-code c =
     let t = c.args.t.now in
     let file = file_of c.args.c.now in
-    let a-name = names_mine file t c.args.first (place_of c.args.c.now) c.requires.tallied.within ∙ c.in-ok-name.ensures.gave in
-    let f-name = c.in-ok-name.ensures.file in
-    let a-params = moved (λ x. params_at x c.args.n (place_of c.read-name.new.c)) f-name c.in-ok-params.ensures.gave.0 in
-    let f-params = c.in-ok-params.ensures.file ∙ f-name in
-    let ps = part c.in-ok-params.params (params_of c.read-params.new.t) in
-    let kept = program_kept t c.read-params.new.t (params_extend t c.read-params.new.t c.in-ok-params.params c.in-ok-params.ensures.rest c.in-ok-params.ensures.gave.1) in
-    let a-result = moved (λ x. result_at x c.args.n (program_of t) c.args.s c.in-ok-name.name ps (place_of c.read-params.new.c)) f-params
-    (sym (ap (λ P. result_at (file_of c.read-params.new.c) c.args.n P c.args.s c.in-ok-name.name ps (place_of c.read-params.new.c)) kept) ∙ c.in-ok-result.ensures.gave) in
-    let f-result = c.in-ok-result.ensures.file ∙ f-params in
-    let a-height = moved (λ x. at_most x max_height (place_of c.read-result.new.c)) f-result c.in-ok-height.ensures.gave in
-    let f-height = c.in-ok-height.ensures.file ∙ f-result in
-    let a-extras = moved (λ x. extras_at x (length ps) (place_of c.at-most.new.c)) f-height
-    (ap (λ k. extras_at (file_of c.at-most.new.c) k (place_of c.at-most.new.c)) (length_part c.in-ok-params.params (params_of c.read-params.new.t) (behind_within c.in-ok-params.ensures.gave.1)) ∙ c.in-ok-extras.ensures.gave) in
-    let f-extras = c.in-ok-extras.ensures.file ∙ f-height in
-    let p = err_from_is_err_and c.from-residual-in-err-code.result c.from-residual-in-err-code.ensures.1 in
+    let a-name = names_mine file t c.args.first (place_of c.args.c.now) c.requires.tallied.within ∙ c.in_ok-name.ensures.gave in
+    let f-name = c.in_ok-name.ensures.file in
+    let a-params = moved (λ x. params_at x c.args.n (place_of c.read_name.new.c)) f-name c.in_ok-params.ensures.gave.0 in
+    let f-params = c.in_ok-params.ensures.file ∙ f-name in
+    let ps = part c.in_ok-params.params (params_of c.read_params.new.t) in
+    let kept = program_kept t c.read_params.new.t (params_extend t c.read_params.new.t c.in_ok-params.params c.in_ok-params.ensures.rest c.in_ok-params.ensures.gave.1) in
+    let a-result = moved (λ x. result_at x c.args.n (program_of t) c.args.s c.in_ok-name.name ps (place_of c.read_params.new.c)) f-params
+    (sym (ap (λ P. result_at (file_of c.read_params.new.c) c.args.n P c.args.s c.in_ok-name.name ps (place_of c.read_params.new.c)) kept) ∙ c.in_ok-result.ensures.gave) in
+    let f-result = c.in_ok-result.ensures.file ∙ f-params in
+    let a-height = moved (λ x. at_most x max_height (place_of c.read_result.new.c)) f-result c.in_ok-height.ensures.gave in
+    let f-height = c.in_ok-height.ensures.file ∙ f-result in
+    let a-extras = moved (λ x. extras_at x (length ps) (place_of c.at_most.new.c)) f-height
+    (ap (λ k. extras_at (file_of c.at_most.new.c) k (place_of c.at_most.new.c)) (length_part c.in_ok-params.params (params_of c.read_params.new.t) (behind_within c.in_ok-params.ensures.gave.1)) ∙ c.in_ok-extras.ensures.gave) in
+    let f-extras = c.in_ok-extras.ensures.file ∙ f-height in
+    let p = err_from_is_err_and c.from_residual-in_err-code.result c.from_residual-in_err-code.ensures.1 in
     rw (p.1, p.2) (record {
-      file = c.in-err-code.ensures.file ∙ f-extras;
+      file = c.in_err-code.ensures.file ∙ f-extras;
       tallied = tt;
       more = tt;
-      gave = no_code file c.args.n (program_of t) c.args.s (mine c.args.first t) (place_of c.args.c.now) _ _ a-name _ _ a-params _ _ a-result _ _ a-height _ _ a-extras c.in-err-code.field-0.0 (moved (λ x. code_at x (program_code (program_of t) + count_code (mine c.args.first t)) (place_of c.read-more.new.c)) f-extras
-          (sym (ap (λ k. code_at (file_of c.read-more.new.c) k (place_of c.read-more.new.c)) (ap length c.in-ok-params.ensures.rest.instrs ∙ c.requires.tallied.code)) ∙ c.in-err-code.ensures.gave));
+      gave = no_code file c.args.n (program_of t) c.args.s (mine c.args.first t) (place_of c.args.c.now) _ _ a-name _ _ a-params _ _ a-result _ _ a-height _ _ a-extras c.in_err-code.field-0.0 (moved (λ x. code_at x (program_code (program_of t) + count_code (mine c.args.first t)) (place_of c.read_more.new.c)) f-extras
+          (sym (ap (λ k. code_at (file_of c.read_more.new.c) k (place_of c.read_more.new.c)) (ap length c.in_ok-params.ensures.rest.instrs ∙ c.requires.tallied.code)) ∙ c.in_err-code.ensures.gave));
     })
 
-pub returns-in-err-handlers : goal.returns-in-err-handlers
-returns-in-err-handlers c =
+pub returns-in_err-handlers : goal.returns-in_err-handlers
+returns-in_err-handlers c =
     let t = c.args.t.now in
     let file = file_of c.args.c.now in
-    let a-name = names_mine file t c.args.first (place_of c.args.c.now) c.requires.tallied.within ∙ c.in-ok-name.ensures.gave in
-    let f-name = c.in-ok-name.ensures.file in
-    let a-params = moved (λ x. params_at x c.args.n (place_of c.read-name.new.c)) f-name c.in-ok-params.ensures.gave.0 in
-    let f-params = c.in-ok-params.ensures.file ∙ f-name in
-    let ps = part c.in-ok-params.params (params_of c.read-params.new.t) in
-    let kept = program_kept t c.read-params.new.t (params_extend t c.read-params.new.t c.in-ok-params.params c.in-ok-params.ensures.rest c.in-ok-params.ensures.gave.1) in
-    let a-result = moved (λ x. result_at x c.args.n (program_of t) c.args.s c.in-ok-name.name ps (place_of c.read-params.new.c)) f-params
-    (sym (ap (λ P. result_at (file_of c.read-params.new.c) c.args.n P c.args.s c.in-ok-name.name ps (place_of c.read-params.new.c)) kept) ∙ c.in-ok-result.ensures.gave) in
-    let f-result = c.in-ok-result.ensures.file ∙ f-params in
-    let a-height = moved (λ x. at_most x max_height (place_of c.read-result.new.c)) f-result c.in-ok-height.ensures.gave in
-    let f-height = c.in-ok-height.ensures.file ∙ f-result in
-    let a-extras = moved (λ x. extras_at x (length ps) (place_of c.at-most.new.c)) f-height
-    (ap (λ k. extras_at (file_of c.at-most.new.c) k (place_of c.at-most.new.c)) (length_part c.in-ok-params.params (params_of c.read-params.new.t) (behind_within c.in-ok-params.ensures.gave.1)) ∙ c.in-ok-extras.ensures.gave) in
-    let f-extras = c.in-ok-extras.ensures.file ∙ f-height in
-    let a-code = moved (λ x. code_at x (program_code (program_of t) + count_code (mine c.args.first t)) (place_of c.read-more.new.c)) f-extras
-    (sym (ap (λ k. code_at (file_of c.read-more.new.c) k (place_of c.read-more.new.c)) (ap length c.in-ok-params.ensures.rest.instrs ∙ c.requires.tallied.code)) ∙ c.in-ok-code.ensures.gave.0) in
-    let f_code = c.in-ok-code.ensures.file ∙ f-extras in
-    let p = err_from_is_err_and c.from-residual-in-err-handlers.result c.from-residual-in-err-handlers.ensures.1 in
+    let a-name = names_mine file t c.args.first (place_of c.args.c.now) c.requires.tallied.within ∙ c.in_ok-name.ensures.gave in
+    let f-name = c.in_ok-name.ensures.file in
+    let a-params = moved (λ x. params_at x c.args.n (place_of c.read_name.new.c)) f-name c.in_ok-params.ensures.gave.0 in
+    let f-params = c.in_ok-params.ensures.file ∙ f-name in
+    let ps = part c.in_ok-params.params (params_of c.read_params.new.t) in
+    let kept = program_kept t c.read_params.new.t (params_extend t c.read_params.new.t c.in_ok-params.params c.in_ok-params.ensures.rest c.in_ok-params.ensures.gave.1) in
+    let a-result = moved (λ x. result_at x c.args.n (program_of t) c.args.s c.in_ok-name.name ps (place_of c.read_params.new.c)) f-params
+    (sym (ap (λ P. result_at (file_of c.read_params.new.c) c.args.n P c.args.s c.in_ok-name.name ps (place_of c.read_params.new.c)) kept) ∙ c.in_ok-result.ensures.gave) in
+    let f-result = c.in_ok-result.ensures.file ∙ f-params in
+    let a-height = moved (λ x. at_most x max_height (place_of c.read_result.new.c)) f-result c.in_ok-height.ensures.gave in
+    let f-height = c.in_ok-height.ensures.file ∙ f-result in
+    let a-extras = moved (λ x. extras_at x (length ps) (place_of c.at_most.new.c)) f-height
+    (ap (λ k. extras_at (file_of c.at_most.new.c) k (place_of c.at_most.new.c)) (length_part c.in_ok-params.params (params_of c.read_params.new.t) (behind_within c.in_ok-params.ensures.gave.1)) ∙ c.in_ok-extras.ensures.gave) in
+    let f-extras = c.in_ok-extras.ensures.file ∙ f-height in
+    let a-code = moved (λ x. code_at x (program_code (program_of t) + count_code (mine c.args.first t)) (place_of c.read_more.new.c)) f-extras
+    (sym (ap (λ k. code_at (file_of c.read_more.new.c) k (place_of c.read_more.new.c)) (ap length c.in_ok-params.ensures.rest.instrs ∙ c.requires.tallied.code)) ∙ c.in_ok-code.ensures.gave.0) in
+    let f_code = c.in_ok-code.ensures.file ∙ f-extras in
+    let p = err_from_is_err_and c.from_residual-in_err-handlers.result c.from_residual-in_err-handlers.ensures.1 in
     rw (p.1, p.2) (record {
-      file = c.in-err-handlers.ensures.file ∙ f_code;
+      file = c.in_err-handlers.ensures.file ∙ f_code;
       tallied = tt;
       more = tt;
-      gave = no_handlers file c.args.n (program_of t) c.args.s (mine c.args.first t) (place_of c.args.c.now) _ _ a-name _ _ a-params _ _ a-result _ _ a-height _ _ a-extras _ _ a-code c.in-err-handlers.field-0.0 (moved (λ x. handlers_at x (program_handlers (program_of t) + count_handlers (mine c.args.first t)) (place_of c.read-code.new.c)) f_code
-          (sym (ap (λ k. handlers_at (file_of c.read-code.new.c) k (place_of c.read-code.new.c)) (ap length (c.in-ok-code.ensures.rest.handlers ∙ c.in-ok-params.ensures.rest.handlers) ∙ c.requires.tallied.handlers)) ∙ c.in-err-handlers.ensures.gave));
+      gave = no_handlers file c.args.n (program_of t) c.args.s (mine c.args.first t) (place_of c.args.c.now) _ _ a-name _ _ a-params _ _ a-result _ _ a-height _ _ a-extras _ _ a-code c.in_err-handlers.field-0.0 (moved (λ x. handlers_at x (program_handlers (program_of t) + count_handlers (mine c.args.first t)) (place_of c.read_code.new.c)) f_code
+          (sym (ap (λ k. handlers_at (file_of c.read_code.new.c) k (place_of c.read_code.new.c)) (ap length (c.in_ok-code.ensures.rest.handlers ∙ c.in_ok-params.ensures.rest.handlers) ∙ c.requires.tallied.handlers)) ∙ c.in_err-handlers.ensures.gave));
     })
 
 pub returns : goal.returns
 returns c =
     let t = c.args.t.now in
     let file = file_of c.args.c.now in
-    let a-name = names_mine file t c.args.first (place_of c.args.c.now) c.requires.tallied.within ∙ c.in-ok-name.ensures.gave in
-    let f-name = c.in-ok-name.ensures.file in
-    let a-params = moved (λ x. params_at x c.args.n (place_of c.read-name.new.c)) f-name c.in-ok-params.ensures.gave.0 in
-    let f-params = c.in-ok-params.ensures.file ∙ f-name in
-    let ps = part c.in-ok-params.params (params_of c.read-params.new.t) in
-    let kept = program_kept t c.read-params.new.t (params_extend t c.read-params.new.t c.in-ok-params.params c.in-ok-params.ensures.rest c.in-ok-params.ensures.gave.1) in
-    let a-result = moved (λ x. result_at x c.args.n (program_of t) c.args.s c.in-ok-name.name ps (place_of c.read-params.new.c)) f-params
-    (sym (ap (λ P. result_at (file_of c.read-params.new.c) c.args.n P c.args.s c.in-ok-name.name ps (place_of c.read-params.new.c)) kept) ∙ c.in-ok-result.ensures.gave) in
-    let f-result = c.in-ok-result.ensures.file ∙ f-params in
-    let a-height = moved (λ x. at_most x max_height (place_of c.read-result.new.c)) f-result c.in-ok-height.ensures.gave in
-    let f-height = c.in-ok-height.ensures.file ∙ f-result in
-    let a-extras = moved (λ x. extras_at x (length ps) (place_of c.at-most.new.c)) f-height
-    (ap (λ k. extras_at (file_of c.at-most.new.c) k (place_of c.at-most.new.c)) (length_part c.in-ok-params.params (params_of c.read-params.new.t) (behind_within c.in-ok-params.ensures.gave.1)) ∙ c.in-ok-extras.ensures.gave) in
-    let f-extras = c.in-ok-extras.ensures.file ∙ f-height in
-    let a-code = moved (λ x. code_at x (program_code (program_of t) + count_code (mine c.args.first t)) (place_of c.read-more.new.c)) f-extras
-    (sym (ap (λ k. code_at (file_of c.read-more.new.c) k (place_of c.read-more.new.c)) (ap length c.in-ok-params.ensures.rest.instrs ∙ c.requires.tallied.code)) ∙ c.in-ok-code.ensures.gave.0) in
-    let f_code = c.in-ok-code.ensures.file ∙ f-extras in
-    let a-handlers = moved (λ x. handlers_at x (program_handlers (program_of t) + count_handlers (mine c.args.first t)) (place_of c.read-code.new.c)) f_code
-    (sym (ap (λ k. handlers_at (file_of c.read-code.new.c) k (place_of c.read-code.new.c)) (ap length (c.in-ok-code.ensures.rest.handlers ∙ c.in-ok-params.ensures.rest.handlers) ∙ c.requires.tallied.handlers)) ∙ c.in-ok-handlers.ensures.gave.0) in
-    let u = c.push-method.new.t in
-    let o-params = c.in-ok-params.ensures.rest in
-    let o-code = c.in-ok-code.ensures.rest in
-    let o-handlers = c.in-ok-handlers.ensures.rest in
-    let o-push = c.push-method.ensures.rest in
+    let a-name = names_mine file t c.args.first (place_of c.args.c.now) c.requires.tallied.within ∙ c.in_ok-name.ensures.gave in
+    let f-name = c.in_ok-name.ensures.file in
+    let a-params = moved (λ x. params_at x c.args.n (place_of c.read_name.new.c)) f-name c.in_ok-params.ensures.gave.0 in
+    let f-params = c.in_ok-params.ensures.file ∙ f-name in
+    let ps = part c.in_ok-params.params (params_of c.read_params.new.t) in
+    let kept = program_kept t c.read_params.new.t (params_extend t c.read_params.new.t c.in_ok-params.params c.in_ok-params.ensures.rest c.in_ok-params.ensures.gave.1) in
+    let a-result = moved (λ x. result_at x c.args.n (program_of t) c.args.s c.in_ok-name.name ps (place_of c.read_params.new.c)) f-params
+    (sym (ap (λ P. result_at (file_of c.read_params.new.c) c.args.n P c.args.s c.in_ok-name.name ps (place_of c.read_params.new.c)) kept) ∙ c.in_ok-result.ensures.gave) in
+    let f-result = c.in_ok-result.ensures.file ∙ f-params in
+    let a-height = moved (λ x. at_most x max_height (place_of c.read_result.new.c)) f-result c.in_ok-height.ensures.gave in
+    let f-height = c.in_ok-height.ensures.file ∙ f-result in
+    let a-extras = moved (λ x. extras_at x (length ps) (place_of c.at_most.new.c)) f-height
+    (ap (λ k. extras_at (file_of c.at_most.new.c) k (place_of c.at_most.new.c)) (length_part c.in_ok-params.params (params_of c.read_params.new.t) (behind_within c.in_ok-params.ensures.gave.1)) ∙ c.in_ok-extras.ensures.gave) in
+    let f-extras = c.in_ok-extras.ensures.file ∙ f-height in
+    let a-code = moved (λ x. code_at x (program_code (program_of t) + count_code (mine c.args.first t)) (place_of c.read_more.new.c)) f-extras
+    (sym (ap (λ k. code_at (file_of c.read_more.new.c) k (place_of c.read_more.new.c)) (ap length c.in_ok-params.ensures.rest.instrs ∙ c.requires.tallied.code)) ∙ c.in_ok-code.ensures.gave.0) in
+    let f_code = c.in_ok-code.ensures.file ∙ f-extras in
+    let a-handlers = moved (λ x. handlers_at x (program_handlers (program_of t) + count_handlers (mine c.args.first t)) (place_of c.read_code.new.c)) f_code
+    (sym (ap (λ k. handlers_at (file_of c.read_code.new.c) k (place_of c.read_code.new.c)) (ap length (c.in_ok-code.ensures.rest.handlers ∙ c.in_ok-params.ensures.rest.handlers) ∙ c.requires.tallied.handlers)) ∙ c.in_ok-handlers.ensures.gave.0) in
+    let u = c.push_method.new.t in
+    let o-params = c.in_ok-params.ensures.rest in
+    let o-code = c.in_ok-code.ensures.rest in
+    let o-handlers = c.in_ok-handlers.ensures.rest in
+    let o-push = c.push_method.ensures.rest in
     let e-params = o-push.params ∙ (o-handlers.params ∙ o-code.params) in
     let e-code = o-push.instrs ∙ o-handlers.instrs in
     let classes = o-push.classes ∙ (o-handlers.classes ∙ (o-code.classes ∙ o-params.classes)) in
     let fields = o-push.fields ∙ (o-handlers.fields ∙ (o-code.fields ∙ o-params.fields)) in
     let m : MethodRec =
     record {
-      name = c.in-ok-name.name;
-      params = c.in-ok-params.params;
-      result = c.in-ok-result.result;
-      height = c.in-ok-height.height;
-      extras = c.in-ok-extras.extras;
-      code = c.in-ok-code.code;
-      handlers = c.in-ok-handlers.handlers;
+      name = c.in_ok-name.name;
+      params = c.in_ok-params.params;
+      result = c.in_ok-result.result;
+      height = c.in_ok-height.height;
+      extras = c.in_ok-extras.extras;
+      code = c.in_ok-code.code;
+      handlers = c.in_ok-handlers.handlers;
     } in
-    let methods = c.push-method.ensures.methods ∙ ap (λ xs. xs ++ m ∷ []) (o-handlers.methods ∙ (o-code.methods ∙ o-params.methods)) in
-    let b-params = behind_as refl e-params c.in-ok-params.ensures.gave.1 in
-    let b-code = behind_as (sym o-params.instrs) e-code c.in-ok-code.ensures.gave.1 in
-    let b-handlers = behind_as (sym (o-code.handlers ∙ o-params.handlers)) o-push.handlers c.in-ok-handlers.ensures.gave.1 in
+    let methods = c.push_method.ensures.methods ∙ ap (λ xs. xs ++ m ∷ []) (o-handlers.methods ∙ (o-code.methods ∙ o-params.methods)) in
+    let b-params = behind_as refl e-params c.in_ok-params.ensures.gave.1 in
+    let b-code = behind_as (sym o-params.instrs) e-code c.in_ok-code.ensures.gave.1 in
+    let b-handlers = behind_as (sym (o-code.handlers ∙ o-params.handlers)) o-push.handlers c.in_ok-handlers.ensures.gave.1 in
     record {
-      file = c.in-ok-handlers.ensures.file ∙ f_code;
-      tallied = tallied_more t u m classes fields methods b-params b-code b-handlers c.args.first c.requires.tallied c.in-ok-params.ensures.most;
+      file = c.in_ok-handlers.ensures.file ∙ f_code;
+      tallied = tallied_more t u m classes fields methods b-params b-code b-handlers c.args.first c.requires.tallied c.in_ok-params.ensures.most;
       more = method_more t u m classes fields methods b-params b-code b-handlers;
       gave = one_more file c.args.n (program_of t) c.args.s (mine c.args.first t) (place_of c.args.c.now) _ _ a-name _ _ a-params _ _ a-result _ _ a-height _ _ a-extras _ _ a-code _ _ a-handlers
-          ∙ (ap (λ x. Ok (mine c.args.first t ++ x ∷ [], place_of c.read-handlers.new.c)) (sym (view_as e-params e-code o-push.handlers m))
-          ∙ ap (λ xs. Ok (xs, place_of c.read-handlers.new.c)) (sym (mine_more t u m classes fields methods b-params b-code b-handlers c.args.first c.requires.tallied)));
+          ∙ (ap (λ x. Ok (mine c.args.first t ++ x ∷ [], place_of c.read_handlers.new.c)) (sym (view_as e-params e-code o-push.handlers m))
+          ∙ ap (λ xs. Ok (xs, place_of c.read_handlers.new.c)) (sym (mine_more t u m classes fields methods b-params b-code b-handlers c.args.first c.requires.tallied)));
     }

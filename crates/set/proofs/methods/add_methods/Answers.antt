@@ -20,27 +20,27 @@ loop-init c =
       no_more c.args.t.now,
     )
 
-pub returns-in-err-read-method : goal.returns-in-err-read-method
-returns-in-err-read-method c =
-    let p = err_from_is_err_and c.from-residual.result c.from-residual.ensures.1 in
+pub returns-in_err-read_method : goal.returns-in_err-read_method
+returns-in_err-read_method c =
+    let p = err_from_is_err_and c.from_residual.result c.from_residual.ensures.1 in
     let file = file_of c.args.c.now in
     let P = program_of c.args.t.now in
     let a = moved (λ x. method_step x c.args.n P c.args.s (mine c.args.first c.loop.t) (place_of c.loop.c)) c.loop.invariant.1
-    (sym (ap (λ Q. method_step (file_of c.loop.c) c.args.n Q c.args.s (mine c.args.first c.loop.t) (place_of c.loop.c)) c.loop.invariant.3.program) ∙ c.in-err-read-method.ensures.gave) in
-    let e = counted_step_err (method_at file c.args.n P c.args.s) c.args.count c.loop.counter (mine c.args.first c.loop.t) (place_of c.loop.c) c.in-err-read-method.field-0.0 (omega arith) a in
-    rw (p.1, p.2) (record { file = c.in-err-read-method.ensures.file ∙ c.loop.invariant.1; tallied = tt; more = tt; gave = sym c.loop.invariant.0 ∙ e })
+    (sym (ap (λ Q. method_step (file_of c.loop.c) c.args.n Q c.args.s (mine c.args.first c.loop.t) (place_of c.loop.c)) c.loop.invariant.3.program) ∙ c.in_err-read_method.ensures.gave) in
+    let e = counted_step_err (method_at file c.args.n P c.args.s) c.args.count c.loop.counter (mine c.args.first c.loop.t) (place_of c.loop.c) c.in_err-read_method.field-0.0 (omega arith) a in
+    rw (p.1, p.2) (record { file = c.in_err-read_method.ensures.file ∙ c.loop.invariant.1; tallied = tt; more = tt; gave = sym c.loop.invariant.0 ∙ e })
 
 pub loop-preserved : goal.loop-preserved
 loop-preserved c =
     let file = file_of c.args.c.now in
     let P = program_of c.args.t.now in
     let a = moved (λ x. method_step x c.args.n P c.args.s (mine c.args.first c.loop.t) (place_of c.loop.c)) c.loop.invariant.1
-    (sym (ap (λ Q. method_step (file_of c.loop.c) c.args.n Q c.args.s (mine c.args.first c.loop.t) (place_of c.loop.c)) c.loop.invariant.3.program) ∙ c.in-ok-read-method.ensures.gave) in
-    let e = counted_step_ok (method_at file c.args.n P c.args.s) c.args.count c.loop.counter (mine c.args.first c.loop.t) (mine c.args.first c.read-method.new.t) (place_of c.loop.c) (place_of c.read-method.new.c) (omega arith) a in (
+    (sym (ap (λ Q. method_step (file_of c.loop.c) c.args.n Q c.args.s (mine c.args.first c.loop.t) (place_of c.loop.c)) c.loop.invariant.3.program) ∙ c.in_ok-read_method.ensures.gave) in
+    let e = counted_step_ok (method_at file c.args.n P c.args.s) c.args.count c.loop.counter (mine c.args.first c.loop.t) (mine c.args.first c.read_method.new.t) (place_of c.loop.c) (place_of c.read_method.new.c) (omega arith) a in (
       sym e ∙ c.loop.invariant.0,
-      c.in-ok-read-method.ensures.file ∙ c.loop.invariant.1,
-      c.in-ok-read-method.ensures.tallied,
-      more_by c.loop.counter 1 c.args.t.now c.loop.t c.read-method.new.t c.loop.invariant.3 c.in-ok-read-method.ensures.more,
+      c.in_ok-read_method.ensures.file ∙ c.loop.invariant.1,
+      c.in_ok-read_method.ensures.tallied,
+      more_by c.loop.counter 1 c.args.t.now c.loop.t c.read_method.new.t c.loop.invariant.3 c.in_ok-read_method.ensures.more,
     )
 
 pub returns : goal.returns

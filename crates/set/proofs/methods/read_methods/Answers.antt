@@ -13,37 +13,37 @@ use Rattle.set.proofs.Checked.{methods_counted}
 use Rattle.set.proofs.Ways.{moved}
 use Rattle.set.proofs.methods.read_methods.Goals as goal
 
-pub returns-in-err-add-methods : goal.returns-in-err-add-methods
-returns-in-err-add-methods c =
-    let p = err_from_is_err_and c.from-residual-in-err-add-methods.result c.from-residual-in-err-add-methods.ensures.1 in
+pub returns-in_err-add_methods : goal.returns-in_err-add_methods
+returns-in_err-add_methods c =
+    let p = err_from_is_err_and c.from_residual-in_err-add_methods.result c.from_residual-in_err-add_methods.ensures.1 in
     let t = c.args.t.now in
     let file = file_of c.args.c.now in
-    let f = c.in-ok-count.ensures.file in
+    let f = c.in_ok-count.ensures.file in
     let none : mine t.method_count t ≡ [] = drop_all t.method_count (method_views t) (omega (arith, length_views t)) in
     let a = methods_counted file c.args.n (program_of t) c.args.s (place_of c.args.c.now) t.method_count (c.requires.whole ∙ length_methods t) in
-    let b = moved (λ x. counted (method_at x c.args.n (program_of t) c.args.s) c.in-ok-count.count [] (place_of c.read-more.new.c)) f
-    (sym (ap (λ ms. counted (method_at (file_of c.read-more.new.c) c.args.n (program_of t) c.args.s) c.in-ok-count.count ms (place_of c.read-more.new.c)) none) ∙ c.in-err-add-methods.ensures.gave) in
+    let b = moved (λ x. counted (method_at x c.args.n (program_of t) c.args.s) c.in_ok-count.count [] (place_of c.read_more.new.c)) f
+    (sym (ap (λ ms. counted (method_at (file_of c.read_more.new.c) c.args.n (program_of t) c.args.s) c.in_ok-count.count ms (place_of c.read_more.new.c)) none) ∙ c.in_err-add_methods.ensures.gave) in
     rw (p.1, p.2) (record {
-      file = c.in-err-add-methods.ensures.file ∙ f;
+      file = c.in_err-add_methods.ensures.file ∙ f;
       first = tt;
       tallied = tt;
       more = tt;
-      gave = a ∙ (ap (λ x. then x (λ k q. counted (method_at file c.args.n (program_of t) c.args.s) k [] q)) c.in-ok-count.ensures.gave ∙ b);
+      gave = a ∙ (ap (λ x. then x (λ k q. counted (method_at file c.args.n (program_of t) c.args.s) k [] q)) c.in_ok-count.ensures.gave ∙ b);
     })
 
 pub returns : goal.returns
 returns c =
     let t = c.args.t.now in
     let file = file_of c.args.c.now in
-    let f = c.in-ok-count.ensures.file in
+    let f = c.in_ok-count.ensures.file in
     let none : mine t.method_count t ≡ [] = drop_all t.method_count (method_views t) (omega (arith, length_views t)) in
     let a = methods_counted file c.args.n (program_of t) c.args.s (place_of c.args.c.now) t.method_count (c.requires.whole ∙ length_methods t) in
-    let b = moved (λ x. counted (method_at x c.args.n (program_of t) c.args.s) c.in-ok-count.count [] (place_of c.read-more.new.c)) f
-    (sym (ap (λ ms. counted (method_at (file_of c.read-more.new.c) c.args.n (program_of t) c.args.s) c.in-ok-count.count ms (place_of c.read-more.new.c)) none) ∙ c.in-ok-add-methods.ensures.gave) in
+    let b = moved (λ x. counted (method_at x c.args.n (program_of t) c.args.s) c.in_ok-count.count [] (place_of c.read_more.new.c)) f
+    (sym (ap (λ ms. counted (method_at (file_of c.read_more.new.c) c.args.n (program_of t) c.args.s) c.in_ok-count.count ms (place_of c.read_more.new.c)) none) ∙ c.in_ok-add_methods.ensures.gave) in
     record {
-      file = c.in-ok-add-methods.ensures.file ∙ f;
+      file = c.in_ok-add_methods.ensures.file ∙ f;
       first = sym (length_methods t);
-      tallied = c.in-ok-add-methods.ensures.tallied;
-      more = c.in-ok-add-methods.ensures.more;
-      gave = a ∙ (ap (λ x. then x (λ k q. counted (method_at file c.args.n (program_of t) c.args.s) k [] q)) c.in-ok-count.ensures.gave ∙ b);
+      tallied = c.in_ok-add_methods.ensures.tallied;
+      more = c.in_ok-add_methods.ensures.more;
+      gave = a ∙ (ap (λ x. then x (λ k q. counted (method_at file c.args.n (program_of t) c.args.s) k [] q)) c.in_ok-count.ensures.gave ∙ b);
     }

@@ -6,8 +6,8 @@ use Rattle.tables.specs.Spans.{FieldsWithin, MethodsWithin, chained}
 use Rattle.tables.proofs.Spans.{count_classes, count_fields, length_methods}
 use Rattle.set.proofs.push.push_class.Goals as goal
 
-pub invariant-of-t : goal.invariant-of-t
-invariant-of-t c =
+pub invariant_of-t : goal.invariant_of-t
+invariant_of-t c =
     let t = c.args.t.now in
     let h : t.class_count < 28 = omega (arith, c.requires.room, count_classes t) in
     let i : t.class_count < length t.classes = omega (arith, h, t.all_classes) in

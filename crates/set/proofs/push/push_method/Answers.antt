@@ -6,8 +6,8 @@ use Rattle.tables.specs.Spans.{ParamsWithin, CodeWithin, HandlersWithin}
 use Rattle.tables.proofs.Spans.{length_methods, count_params, count_instrs, count_handlers}
 use Rattle.set.proofs.push.push_method.Goals as goal
 
-pub invariant-of-t : goal.invariant-of-t
-invariant-of-t c =
+pub invariant_of-t : goal.invariant_of-t
+invariant_of-t c =
     let t = c.args.t.now in
     let h : t.method_count < 64 = omega (arith, c.requires.room, length_methods t) in
     let i : t.method_count < length t.methods = omega (arith, h, t.all_methods) in

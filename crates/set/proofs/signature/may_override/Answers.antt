@@ -9,8 +9,8 @@ use Rattle.set.proofs.signature.may_override.Goals as goal
 pub returns-in-None : goal.returns-in-None
 returns-in-None c = sym (override_free (program_of c.args.t.now) c.args.s c.args.name (part c.args.params (params_of c.args.t.now)) c.args.res (sym c.in-None.ensures))
 
-pub offset-bounds-t-k : goal.offset-bounds-t-k
-offset-bounds-t-k c =
+pub offset_bounds-t-k : goal.offset_bounds-t-k
+offset_bounds-t-k c =
     let t = c.args.t.now in
     let b : c.in-Some.k < 64 = omega (arith, seen_below t c.args.s c.args.name c.in-Some.k (sym c.in-Some.ensures), t.few_methods) in
     search rules
@@ -18,8 +18,8 @@ offset-bounds-t-k c =
 pub bounds-t-k : goal.bounds-t-k
 bounds-t-k c = let t = c.args.t.now in omega (arith, seen_below t c.args.s c.args.name c.in-Some.k (sym c.in-Some.ensures), t.few_methods)
 
-pub types-in-requires-in-Some : goal.types-in-requires-in-Some
-types-in-requires-in-Some c =
+pub types_in-requires-in-Some : goal.types_in-requires-in-Some
+types_in-requires-in-Some c =
     let t = c.args.t.now in
     let b = seen_below t c.args.s c.args.name c.in-Some.k (sym c.in-Some.ensures) in
     rw (count_params t) (t.method_params c.in-Some.k _ (omega arith) b)
@@ -28,4 +28,4 @@ pub returns-in-Some : goal.returns-in-Some
 returns-in-Some c =
     let t = c.args.t.now in
     let e = override_at t c.args.s c.args.name c.in-Some.k (sym c.in-Some.ensures) (part c.args.params (params_of t)) c.args.res _ in
-    c.same-signature.ensures ∙ (simp (c.types_in.ensures, c.types-in-in-Some.ensures) (sym e))
+    c.same_signature.ensures ∙ (simp (c.types_in.ensures, c.types_in-in-Some.ensures) (sym e))

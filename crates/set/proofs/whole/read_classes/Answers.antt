@@ -9,20 +9,20 @@ use Rattle.set.specs.Progress.{class_step}
 use Rattle.set.proofs.Ways.{moved}
 use Rattle.set.proofs.whole.read_classes.Goals as goal
 
-pub returns-in-err-read-class : goal.returns-in-err-read-class
+pub returns-in_err-read_class : goal.returns-in_err-read_class
 unfolding classes_at
-returns-in-err-read-class c =
-    let p = err_from_is_err_and c.from-residual.result c.from-residual.ensures.1 in
-    let a = moved (λ x. class_step x c.args.n (program_of c.loop.t) (place_of c.loop.c)) c.loop.invariant.1 c.in-err-read-class.ensures.gave in
-    let e = counted_step_err (class_at (file_of c.args.c.now) c.args.n) c.args.count c.loop.counter (program_of c.loop.t) (place_of c.loop.c) c.in-err-read-class.field-0.0 (omega arith) a in
-    rw (p.1, p.2) (record { file = c.in-err-read-class.ensures.file ∙ c.loop.invariant.1; full = tt; gave = sym c.loop.invariant.0 ∙ e })
+returns-in_err-read_class c =
+    let p = err_from_is_err_and c.from_residual.result c.from_residual.ensures.1 in
+    let a = moved (λ x. class_step x c.args.n (program_of c.loop.t) (place_of c.loop.c)) c.loop.invariant.1 c.in_err-read_class.ensures.gave in
+    let e = counted_step_err (class_at (file_of c.args.c.now) c.args.n) c.args.count c.loop.counter (program_of c.loop.t) (place_of c.loop.c) c.in_err-read_class.field-0.0 (omega arith) a in
+    rw (p.1, p.2) (record { file = c.in_err-read_class.ensures.file ∙ c.loop.invariant.1; full = tt; gave = sym c.loop.invariant.0 ∙ e })
 
 pub loop-preserved : goal.loop-preserved
 unfolding classes_at
 loop-preserved c =
-    let a = moved (λ x. class_step x c.args.n (program_of c.loop.t) (place_of c.loop.c)) c.loop.invariant.1 c.in-ok-read-class.ensures.gave in
-    let e = counted_step_ok (class_at (file_of c.args.c.now) c.args.n) c.args.count c.loop.counter (program_of c.loop.t) (program_of c.read-class.new.t) (place_of c.loop.c) (place_of c.read-class.new.c) (omega arith) a in
-    (sym e ∙ c.loop.invariant.0, c.in-ok-read-class.ensures.file ∙ c.loop.invariant.1, c.in-ok-read-class.ensures.full, omega (arith, c.in-ok-read-class.ensures.more, c.loop.invariant.3))
+    let a = moved (λ x. class_step x c.args.n (program_of c.loop.t) (place_of c.loop.c)) c.loop.invariant.1 c.in_ok-read_class.ensures.gave in
+    let e = counted_step_ok (class_at (file_of c.args.c.now) c.args.n) c.args.count c.loop.counter (program_of c.loop.t) (program_of c.read_class.new.t) (place_of c.loop.c) (place_of c.read_class.new.c) (omega arith) a in
+    (sym e ∙ c.loop.invariant.0, c.in_ok-read_class.ensures.file ∙ c.loop.invariant.1, c.in_ok-read_class.ensures.full, omega (arith, c.in_ok-read_class.ensures.more, c.loop.invariant.3))
 
 pub returns : goal.returns
 unfolding classes_at
