@@ -6,4 +6,4 @@ use Rattle.set.proofs.make.of_nothing.Goals as goal
 
 pub invariant_of-result : goal.invariant_of-result
 unfolding keeps
-invariant_of-result c = (ap keeps c.requires.program, (ap count_methods c.requires.program ∙ sym (ap length c.requires.methods), tt))
+invariant_of-result c = record { kept = ap keeps c.requires.program; whole = ap count_methods c.requires.program ∙ sym (ap length c.requires.methods) }

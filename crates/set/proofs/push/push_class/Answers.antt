@@ -12,61 +12,26 @@ invariant_of-t c =
     let h : t.class_count < 28 = omega (arith, c.requires.room, count_classes t) in
     let i : t.class_count < length t.classes = omega (arith, h, t.all_classes) in
     let fields : FieldsWithin t.field_count c.args.k = omega (arith, c.requires.fields, count_fields t) in
-    let methods : MethodsWithin t.method_count c.args.k = omega (arith, c.requires.methods, length_methods t) in (
-      omega (arith, h),
-      (
-        t.few_fields,
-        (
-          t.few_methods,
-          (
-            t.few_params,
-            (
-              t.few_instrs,
-              (
-                t.few_handlers,
-                (
-                  length-set t.classes t.class_count c.args.k ∙ t.all_classes,
-                  (
-                    t.all_fields,
-                    (
-                      t.all_methods,
-                      (
-                        t.all_params,
-                        (
-                          t.all_instrs,
-                          (
-                            t.all_handlers,
-                            (
-                              AllWithin-more_set t.classes t.class_count c.args.k i (FieldsWithin t.field_count) t.class_fields fields,
-                              (
-                                AllWithin-more_set t.classes t.class_count c.args.k i (MethodsWithin t.method_count) t.class_methods methods,
-                                (
-                                  t.method_params,
-                                  (
-                                    t.method_code,
-                                    (
-                                      t.method_handlers,
-                                      (
-                                        ap (chained 0) (take_more_set t.classes t.class_count c.args.k i) ∙ c.requires.numbered,
-                                        tt,
-                                      ),
-                                    ),
-                                  ),
-                                ),
-                              ),
-                            ),
-                          ),
-                        ),
-                      ),
-                    ),
-                  ),
-                ),
-              ),
-            ),
-          ),
-        ),
-      ),
-    )
+    let methods : MethodsWithin t.method_count c.args.k = omega (arith, c.requires.methods, length_methods t) in record {
+      few_classes = omega (arith, h);
+      few_fields = t.few_fields;
+      few_methods = t.few_methods;
+      few_params = t.few_params;
+      few_instrs = t.few_instrs;
+      few_handlers = t.few_handlers;
+      all_classes = length-set t.classes t.class_count c.args.k ∙ t.all_classes;
+      all_fields = t.all_fields;
+      all_methods = t.all_methods;
+      all_params = t.all_params;
+      all_instrs = t.all_instrs;
+      all_handlers = t.all_handlers;
+      class_fields = AllWithin-more_set t.classes t.class_count c.args.k i (FieldsWithin t.field_count) t.class_fields fields;
+      class_methods = AllWithin-more_set t.classes t.class_count c.args.k i (MethodsWithin t.method_count) t.class_methods methods;
+      method_params = t.method_params;
+      method_code = t.method_code;
+      method_handlers = t.method_handlers;
+      numbered = ap (chained 0) (take_more_set t.classes t.class_count c.args.k i) ∙ c.requires.numbered;
+    }
 
 pub returns : goal.returns
 returns c =

@@ -13,58 +13,26 @@ invariant_of-t c =
     let i : t.method_count < length t.methods = omega (arith, h, t.all_methods) in
     let params : ParamsWithin t.param_count c.args.m = omega (arith, c.requires.params, count_params t) in
     let code : CodeWithin t.instr_count c.args.m = omega (arith, c.requires.code, count_instrs t) in
-    let handlers : HandlersWithin t.handler_count c.args.m = omega (arith, c.requires.handlers, count_handlers t) in (
-      t.few_classes,
-      (
-        t.few_fields,
-        (
-          omega (arith, h),
-          (
-            t.few_params,
-            (
-              t.few_instrs,
-              (
-                t.few_handlers,
-                (
-                  t.all_classes,
-                  (
-                    t.all_fields,
-                    (
-                      length-set t.methods t.method_count c.args.m ∙ t.all_methods,
-                      (
-                        t.all_params,
-                        (
-                          t.all_instrs,
-                          (
-                            t.all_handlers,
-                            (
-                              t.class_fields,
-                              (
-                                (λ k d l r. omega (arith, t.class_methods k d l r)),
-                                (
-                                  AllWithin-more_set t.methods t.method_count c.args.m i (ParamsWithin t.param_count) t.method_params params,
-                                  (
-                                    AllWithin-more_set t.methods t.method_count c.args.m i (CodeWithin t.instr_count) t.method_code code,
-                                    (
-                                      AllWithin-more_set t.methods t.method_count c.args.m i (HandlersWithin t.handler_count) t.method_handlers handlers,
-                                      (t.numbered, tt),
-                                    ),
-                                  ),
-                                ),
-                              ),
-                            ),
-                          ),
-                        ),
-                      ),
-                    ),
-                  ),
-                ),
-              ),
-            ),
-          ),
-        ),
-      ),
-    )
+    let handlers : HandlersWithin t.handler_count c.args.m = omega (arith, c.requires.handlers, count_handlers t) in record {
+      few_classes = t.few_classes;
+      few_fields = t.few_fields;
+      few_methods = omega (arith, h);
+      few_params = t.few_params;
+      few_instrs = t.few_instrs;
+      few_handlers = t.few_handlers;
+      all_classes = t.all_classes;
+      all_fields = t.all_fields;
+      all_methods = length-set t.methods t.method_count c.args.m ∙ t.all_methods;
+      all_params = t.all_params;
+      all_instrs = t.all_instrs;
+      all_handlers = t.all_handlers;
+      class_fields = t.class_fields;
+      class_methods = λ k d l r. omega (arith, t.class_methods k d l r);
+      method_params = AllWithin-more_set t.methods t.method_count c.args.m i (ParamsWithin t.param_count) t.method_params params;
+      method_code = AllWithin-more_set t.methods t.method_count c.args.m i (CodeWithin t.instr_count) t.method_code code;
+      method_handlers = AllWithin-more_set t.methods t.method_count c.args.m i (HandlersWithin t.handler_count) t.method_handlers handlers;
+      numbered = t.numbered;
+    }
 
 pub returns : goal.returns
 returns c =

@@ -5,7 +5,7 @@ use Rattle.set.proofs.reader.read.Goals as goal
 
 pub invariant_of-set : goal.invariant_of-set
 invariant_of-set c =
-    (filled_keeps c.args.file.now (all_bytes c.args.file.now c.type_inv.file) (program_of c.fill.new.t) c.fill.ensures.filled, (c.fill.ensures.whole, tt))
+    record { kept = filled_keeps c.args.file.now (all_bytes c.args.file.now c.type_inv.file) (program_of c.fill.new.t) c.fill.ensures.filled; whole = c.fill.ensures.whole }
 
 pub returns : goal.returns
 returns c =

@@ -15,7 +15,7 @@ shape_of-table-in_err-x g c = c.loop-i.invariant.3
 pub returns-in_err-x : goal.returns-in_err-x
 returns-in_err-x g c =
     let p = err_from_is_err_and c.from_residual.result c.from_residual.ensures.1 in
-    let e = turn_err (λ file. g.T-as-Item.at file c.args.n) (file_of c.args.c.now) (file_of c.loop-i.c) c.loop-i.invariant.1 c.args.count c.loop-i.i c.args.first c.loop-i.table
+    let e = turn_err (λ file. g.T.Item.at file c.args.n) (file_of c.args.c.now) (file_of c.loop-i.c) c.loop-i.invariant.1 c.args.count c.loop-i.i c.args.first c.loop-i.table
     (place_of c.loop-i.c) c.loop-i-test.true c.in_err-x.field-0.0 c.in_err-x.ensures.gave in
     record { file = c.in_err-x.ensures.file ∙ c.loop-i.invariant.1; front = c.loop-i.invariant.2; gave = rw (p.1, p.2) (sym c.loop-i.invariant.0 ∙ e) }
 
@@ -24,7 +24,7 @@ bounds-table-first g c = omega (arith, c.loop-i.invariant.3)
 
 pub loop-i-preserved : goal.loop-i-preserved
 loop-i-preserved g c =
-    let e = turn_ok (λ file. g.T-as-Item.at file c.args.n) (file_of c.args.c.now) (file_of c.loop-i.c) c.loop-i.invariant.1 c.args.count c.loop-i.i c.args.first c.loop-i.table
+    let e = turn_ok (λ file. g.T.Item.at file c.args.n) (file_of c.args.c.now) (file_of c.loop-i.c) c.loop-i.invariant.1 c.args.count c.loop-i.i c.args.first c.loop-i.table
     (place_of c.loop-i.c) c.loop-i-test.true c.in_ok-x.x (place_of c.read.new.c) (omega (arith, c.loop-i.invariant.3)) c.in_ok-x.ensures.gave in (
       sym e ∙ c.loop-i.invariant.0,
       c.in_ok-x.ensures.file ∙ c.loop-i.invariant.1,

@@ -13,19 +13,19 @@ pub returns-in-err-put : goal.returns-in-err-put
 returns-in-err-put g c =
     refused c.from-residual-in-err-put.result c.from-residual-in-err-put.ensures.0 _ _ _
     (put_full _ _ _ _ _ c.in-ok-put-number.ensures
-    (loop_full_at (g.T-as-Item.stands c.args.tables.now) c.args.items.now c.loop-x.x-index c.x-item.result c.x-item.result (sym c.x-item.is) _ _ _
+    (loop_full_at (g.T.Item.stands c.args.tables.now) c.args.items.now c.loop-x.x-index c.x-item.result c.x-item.result (sym c.x-item.is) _ _ _
     c.loop-x-test.true c.loop-x.invariant c.in-err-put.ensures))
 
 pub loop-x-preserved : goal.loop-x-preserved
 loop-x-preserved g c =
-    loop_more_at (g.T-as-Item.stands c.args.tables.now) c.args.items.now c.loop-x.x-index c.x-item.result c.x-item.result (sym c.x-item.is) _ _ _
+    loop_more_at (g.T.Item.stands c.args.tables.now) c.args.items.now c.loop-x.x-index c.x-item.result c.x-item.result (sym c.x-item.is) _ _ _
     c.loop-x-test.true c.loop-x.invariant c.in-ok-put.ensures
 
 pub returns : goal.returns
 returns g c =
-    counted_all (g.T-as-Item.stands c.args.tables.now) c.args.items.now c.loop-x.x-index _ _ _
+    counted_all (g.T.Item.stands c.args.tables.now) c.args.items.now c.loop-x.x-index _ _ _
     c.loop-x-test.false c.in-ok-put-number.ensures c.loop-x.invariant
 
 pub put-requires : goal.put-requires
 put-requires g c =
-    subst (g.T-as-Item.within c.args.tables.now) (sym c.x-item.is) (c.requires.items c.loop-x.x-index c.x-item.result zero-le c.loop-x-test.true)
+    subst (g.T.Item.within c.args.tables.now) (sym c.x-item.is) (c.requires.items c.loop-x.x-index c.x-item.result zero-le c.loop-x-test.true)

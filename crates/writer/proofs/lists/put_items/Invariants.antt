@@ -5,4 +5,4 @@ use Rattle.number.specs.Puts.{Put, pen_of}
 use Rattle.writer.proofs.lists.put_items.Given as goal
 
 abbrev pub invariant-loop-x : goal.invariant-loop-x
-invariant-loop-x g l = Put (pen_of l.initial.pen) (pen_of l.pen) (flat_map (g.T-as-Item.stands l.tables) (take l.x-index l.items))
+invariant-loop-x g l = Put (pen_of l.initial.pen) (pen_of l.pen) (flat_map (g.T.Item.stands l.tables) (take l.x-index l.items))

@@ -9,11 +9,11 @@ pub put-items-requires : goal.put-items-requires
 put-items-requires g c =
     record {
       few = omega (arith, slice_few c.args.table.now c.args.first c.args.count c.args.filled c.requires.range);
-      items = slice_every c.args.table.now c.args.first c.args.count c.args.filled c.requires.range (g.T-as-Item.within c.args.tables.now) c.requires.items;
+      items = slice_every c.args.table.now c.args.first c.args.count c.args.filled c.requires.range (g.T.Item.within c.args.tables.now) c.requires.items;
     }
 
 pub returns : goal.returns
 returns g c =
-    subst (λ (xs : List g.row.T.Denot). Puts c.put-items.result (pen_of c.args.pen.now) (pen_of c.put-items.new.pen) (counted_bytes (g.T-as-Item.stands c.args.tables.now) xs))
+    subst (λ (xs : List g.row.T.Denot). Puts c.put-items.result (pen_of c.args.pen.now) (pen_of c.put-items.new.pen) (counted_bytes (g.T.Item.stands c.args.tables.now) xs))
     (slice_is c.args.table.now c.args.first c.args.count c.args.filled c.requires.range)
     c.put-items.ensures
