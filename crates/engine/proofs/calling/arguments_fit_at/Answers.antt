@@ -14,4 +14,4 @@ pub returns : goal.returns
 returns g c =
     let d = c.index-frames-top.result in
     let t = lowest_is c.args.frames.now c.args.top d c.requires.within c.index-frames-top.is in
-    rw t (rw c.arguments.ensures at c.fit-all.ensures)
+    rw t (rw c.arguments.ensures at c.fit_all.ensures)

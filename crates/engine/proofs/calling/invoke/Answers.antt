@@ -6,9 +6,9 @@ use Rattle.engine.specs.Stepping.{top_stack}
 use Rattle.engine.proofs.Calls.{invoke_on, invoke_none}
 use Rattle.engine.proofs.calling.invoke.Goals as goal
 
-pub returns-in-default : goal.returns-in-default
-returns-in-default g c M e =
-    rw (invoke_none (program_of c.args.tables.now) (g.H.Heap.meaning c.args.heap.now) c.args.name c.args.n M (frames_of c.args.frames.now) c.in-default.ensures)
+pub returns-in_default : goal.returns-in_default
+returns-in_default g c M e =
+    rw (invoke_none (program_of c.args.tables.now) (g.H.Heap.meaning c.args.heap.now) c.args.name c.args.n M (frames_of c.args.frames.now) c.in_default.ensures)
 
 pub call-requires : goal.call-requires
 call-requires g c =

@@ -7,11 +7,11 @@ use Rattle.tables.specs.Views.{program_of}
 use Rattle.engine.proofs.NewObjects.{created_long, created_is}
 use Rattle.engine.proofs.creating.add_object.Goals as goal
 
-pub returns-then-n-gt-ROW-LIMIT : goal.returns-then-n-gt-ROW-LIMIT
-returns-then-n-gt-ROW-LIMIT g c = created_long (program_of c.args.tables.now) (g.H.Heap.meaning c.args.heap.now) c.args.c (omega arith)
+pub returns-then-n-gt-ROW_LIMIT : goal.returns-then-n-gt-ROW_LIMIT
+returns-then-n-gt-ROW_LIMIT g c = created_long (program_of c.args.tables.now) (g.H.Heap.meaning c.args.heap.now) c.args.c (omega arith)
 
-pub start-row-requires : goal.start-row-requires
-start-row-requires g c =
+pub start_row-requires : goal.start_row-requires
+start_row-requires g c =
     let n = length-map (fields_of (program_of c.args.tables.now) c.args.c) (λ (f : Field). start_value f.ty) in
     record { all = omega (arith, n); short = omega arith }
 

@@ -12,7 +12,7 @@ returns-in-Some g c M e =
     let fs = frames_of c.args.frames.now in
     let n = lowest_length c.args.frames.now.frames c.args.frames.now.count (omega arith) in
     let class : is_class P c.args.c ≡ true = cc in
-    rw c.pass-with.ensures
+    rw c.pass_with.ensures
     (new_goes P (g.H.Heap.meaning c.args.heap.now) c.args.c M class fs (omega (arith, n)) (omega (arith, e)) c.in-Some.ensures)
 
 pub returns-in-None : goal.returns-in-None

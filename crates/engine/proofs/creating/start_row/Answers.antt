@@ -15,38 +15,38 @@ loop-c-init c =
     let n = length-map (fields_of (program_of c.args.tables.now) c.args.c) (λ (f : Field). start_value f.ty) in
     (omega (arith, n), omega arith, λ i l. refl, λ k l m. absurd (omega arith))
 
-pub overflow-sub-start : goal.overflow-sub-start
-overflow-sub-start c =
-    let own = ap length c.own-fields-own.ensures.fields in
+pub overflow_sub-start : goal.overflow_sub-start
+overflow_sub-start c =
+    let own = ap length c.own_fields-own.ensures.fields in
     omega (arith, row_ends (program_of c.args.tables.now) c.loop-c.left c.loop-c.at, c.loop-c.invariant.0)
 
-pub start-own-requires : goal.start-own-requires
-start-own-requires c =
-    let own = ap length c.own-fields-own.ensures.fields in
+pub start_own-requires : goal.start_own-requires
+start_own-requires c =
+    let own = ap length c.own_fields-own.ensures.fields in
     omega (arith, row_ends (program_of c.args.tables.now) c.loop-c.left c.loop-c.at, c.loop-c.invariant.0, c.loop-c.invariant.1)
 
 pub returns-then-start-eq0 : goal.returns-then-start-eq0
 returns-then-start-eq0 c =
     let P = program_of c.args.tables.now in
-    let own = c.own-fields-own.result.now in
+    let own = c.own_fields-own.result.now in
     let start = c.loop-c.end - length own in
     let v = c.loop-c.invariant in
-    let written = row_written P c.loop-c.left c.loop-c.at c.args.c c.args.n c.loop-c.end start own c.loop-c.row c.start-own.new.row c.own-fields-own.ensures.fields v.0 refl c.start-own.ensures.started c.start-own.ensures.above v.2 v.3 in
-    row_whole c.start-own.new.row c.args.n (start_row P c.args.c) c.requires.all (omega arith) (λ k l. written k (omega arith) l)
+    let written = row_written P c.loop-c.left c.loop-c.at c.args.c c.args.n c.loop-c.end start own c.loop-c.row c.start_own.new.row c.own_fields-own.ensures.fields v.0 refl c.start_own.ensures.started c.start_own.ensures.above v.2 v.3 in
+    row_whole c.start_own.new.row c.args.n (start_row P c.args.c) c.requires.all (omega arith) (λ k l. written k (omega arith) l)
 
 pub loop-c-preserved : goal.loop-c-preserved
 loop-c-preserved c =
     let P = program_of c.args.tables.now in
     let left = c.loop-c.left in
     let at = c.loop-c.at in
-    let own = c.own-fields-own.result.now in
-    let all = ap length c.own-fields-own.ensures.fields in
+    let own = c.own_fields-own.result.now in
+    let all = ap length c.own_fields-own.ensures.fields in
     let start = c.loop-c.end - length own in
     let v = c.loop-c.invariant in
     let from : start ≡ length (fields_within P left at) - length (own_fields P at) = omega (arith, v.0, all) in
     let more = row_above P left at 0 start from (omega arith) in
-    let written = row_written P left at c.args.c c.args.n c.loop-c.end start own c.loop-c.row c.start-own.new.row c.own-fields-own.ensures.fields v.0 refl c.start-own.ensures.started c.start-own.ensures.above v.2 v.3 in
-    rw c.superclass_at.ensures (
+    let written = row_written P left at c.args.c c.args.n c.loop-c.end start own c.loop-c.row c.start_own.new.row c.own_fields-own.ensures.fields v.0 refl c.start_own.ensures.started c.start_own.ensures.above v.2 v.3 in
+    rw c.superclass-at.ensures (
       length_row_above P left at start from more,
       omega (arith, v.1),
       λ i l. sym (nth_row_above P left at i start from l) ∙ v.2 i (omega arith),

@@ -4,8 +4,8 @@ use Rattle.engine.specs.Views.{frames_of}
 use Rattle.engine.specs.Stepping.{top_stack}
 use Rattle.engine.proofs.fields.getfield.Goals as goal
 
-pub pass-with-requires : goal.pass-with-requires
-pass-with-requires g c =
+pub pass_with-requires : goal.pass_with-requires
+pass_with-requires g c =
     let some = nth_below (top_stack (frames_of c.args.frames.now)) 0 (sym c.in-Some.ensures) in
     let low = c.height.ensures.low in
     record { some = c.requires.some; inside = c.requires.inside; high = omega (arith, some); low = omega (arith, some, low) }

@@ -9,13 +9,13 @@ use Rattle.engine.proofs.fitting.fit_alone.Goals as goal
 pub returns-then-values-types : goal.returns-then-values-types
 returns-then-values-types c ls = fit_uneven (program_of c.args.tables.now) (vacant ls) c.args.values.now c.args.types.now c.if-values-types.true
 
-pub returns-then-not-fits-alone : goal.returns-then-not-fits-alone
-returns-then-not-fits-alone c ls =
-    sym (c.loop-i.invariant ls ∙ fit_more (program_of c.args.tables.now) (vacant ls) c.args.values.now c.args.types.now c.loop-i.i unit Void (omega arith) (omega arith) (sym (c.if-not-fits-alone.ensures ls)))
+pub returns-then-not-fits_alone : goal.returns-then-not-fits_alone
+returns-then-not-fits_alone c ls =
+    sym (c.loop-i.invariant ls ∙ fit_more (program_of c.args.tables.now) (vacant ls) c.args.values.now c.args.types.now c.loop-i.i unit Void (omega arith) (omega arith) (sym (c.if-not-fits_alone.ensures ls)))
 
 pub loop-i-preserved : goal.loop-i-preserved
 loop-i-preserved c ls =
-    c.loop-i.invariant ls ∙ fit_more (program_of c.args.tables.now) (vacant ls) c.args.values.now c.args.types.now c.loop-i.i unit Void (omega arith) (omega arith) (sym (c.if-not-fits-alone.ensures ls))
+    c.loop-i.invariant ls ∙ fit_more (program_of c.args.tables.now) (vacant ls) c.args.values.now c.args.types.now c.loop-i.i unit Void (omega arith) (omega arith) (sym (c.if-not-fits_alone.ensures ls))
 
 pub returns : goal.returns
 returns c ls =

@@ -10,6 +10,6 @@ returns-in-Some g c = address_fits (program_of c.args.tables.now) (g.H.Heap.mean
 pub returns-in-None : goal.returns-in-None
 returns-in-None g c = nothing_fits (program_of c.args.tables.now) (g.H.Heap.meaning c.args.heap.now) c.args.t c.in-Addr.is c.in-None.ensures
 
-pub returns-in-default : goal.returns-in-default
-returns-in-default g c =
-    c.fits-alone.ensures [] ∙ fits_anywhere (program_of c.args.tables.now) (vacant []) (g.H.Heap.meaning c.args.heap.now) c.args.v c.args.t c.in-default.not-Addr
+pub returns-in_default : goal.returns-in_default
+returns-in_default g c =
+    c.fits_alone.ensures [] ∙ fits_anywhere (program_of c.args.tables.now) (vacant []) (g.H.Heap.meaning c.args.heap.now) c.args.v c.args.t c.in_default.not-Addr

@@ -6,11 +6,11 @@ use Rattle.engine.specs.Views.{frames_of}
 use Rattle.engine.proofs.HeapAnswers.{put_lost, put_found}
 use Rattle.engine.proofs.putting.put.Goals as goal
 
-pub returns-in-default : goal.returns-in-default
-returns-in-default g c = rw (put_lost (program_of c.args.tables.now) (g.H.Heap.meaning c.args.heap.now) c.args.field c.args.c c.args.a c.args.v (frames_of c.args.frames.now) c.in-default.ensures)
+pub returns-in_default : goal.returns-in_default
+returns-in_default g c = rw (put_lost (program_of c.args.tables.now) (g.H.Heap.meaning c.args.heap.now) c.args.field c.args.c c.args.a c.args.v (frames_of c.args.frames.now) c.in_default.ensures)
 
-pub returns-then-not-at-or-below : goal.returns-then-not-at-or-below
-returns-then-not-at-or-below g c =
+pub returns-then-not-at_or_below : goal.returns-then-not-at_or_below
+returns-then-not-at_or_below g c =
     let P = program_of c.args.tables.now in
     let found = put_found P (g.H.Heap.meaning c.args.heap.now) c.args.field c.args.c c.args.a c.args.v (frames_of c.args.frames.now) c.requires.high c.in-Some.ensures in
     let below : at_or_below P c.in-Some.d c.args.c ≡ false = cc in

@@ -8,11 +8,11 @@ use Rattle.engine.proofs.Handlers.{lost_method, found_method}
 use Rattle.engine.proofs.Returns.{resumes_lost, resumes_short, resumes_by}
 use Rattle.engine.proofs.returning.resumes.Goals as goal
 
-pub returns-in-default : goal.returns-in-default
-returns-in-default c rest =
+pub returns-in_default : goal.returns-in_default
+returns-in_default c rest =
     let P = program_of c.args.tables.now in
     let f = c.args.frame.now in
-    resumes_lost P c.args.n (frame_of f) rest (lost_method (method_at P f.method) (c.method.ensures.numbered c.requires.whole ∙ c.in-default.ensures.spans.method))
+    resumes_lost P c.args.n (frame_of f) rest (lost_method (method_at P f.method) (c.method.ensures.numbered c.requires.whole ∙ c.in_default.ensures.spans.method))
 
 pub returns-then-n-frame : goal.returns-then-n-frame
 returns-then-n-frame c rest =

@@ -10,4 +10,4 @@ returns g c M e p =
     let P = program_of c.args.tables.now in
     let h = g.H.Heap.meaning c.args.heap.now in
     let fit : fits P h c.in-Some.v M.method.result ≡ true = rw e (sym c.if-not-fits.ensures) in
-    rw (return_of P h M (frames_of c.args.frames.now) c.in-Some.ensures fit p) (c.hand-back.ensures h)
+    rw (return_of P h M (frames_of c.args.frames.now) c.in-Some.ensures fit p) (c.hand_back.ensures h)

@@ -13,11 +13,11 @@ use Rattle.engine.proofs.start.open.Goals as goal
 
 pub returns-then-args-method : goal.returns-then-args-method
 returns-then-args-method c =
-    let t = c.tables-of-tables.result.now in
+    let t = c.tables_of-tables.result.now in
     let k = c.args.k in
     let s = c.in-Some.ensures.spans in
-    let w = found_method (method_at (program_of t) k) (c.method.ensures.numbered c.tables-of-tables.ensures.whole ∙ s.method) in
-    let met : method_at (set_program c.args.set.now) k ≡ Some w.0 = ap (λ (u : Tables). method_at (program_of u) k) (sym c.tables-of-tables.ensures.tables) ∙ w.1 in
+    let w = found_method (method_at (program_of t) k) (c.method.ensures.numbered c.tables_of-tables.ensures.whole ∙ s.method) in
+    let met : method_at (set_program c.args.set.now) k ≡ Some w.0 = ap (λ (u : Tables). method_at (program_of u) k) (sym c.tables_of-tables.ensures.tables) ∙ w.1 in
     let count = ap length (record_params t s w.0 w.2) ∙ length_part c.in-Some.method.params t.params s.params.within in
     record {
       told = rw (met, ne_eqb (length c.args.args.now) (length w.0.method.params) (λ e. c.if-args-method.true (e ∙ count)));
@@ -25,29 +25,29 @@ returns-then-args-method c =
       kept = λ _. refl;
     }
 
-pub open-first-requires : goal.open-first-requires
-open-first-requires c =
-    let t = c.tables-of-tables.result.now in
+pub open_first-requires : goal.open_first-requires
+open_first-requires c =
+    let t = c.tables_of-tables.result.now in
     let k = c.args.k in
     let s = c.in-Some.ensures.spans in
-    let w = found_method (method_at (program_of t) k) (c.method.ensures.numbered c.tables-of-tables.ensures.whole ∙ s.method) in
+    let w = found_method (method_at (program_of t) k) (c.method.ensures.numbered c.tables_of-tables.ensures.whole ∙ s.method) in
     let count = ap length (record_params t s w.0 w.2) ∙ length_part c.in-Some.method.params t.params s.params.within in
     let extras = ap (λ d. d.extras) w.2 in
-    let few = c.tables-of-tables.ensures.fitting.registers k w.0 w.1 in
+    let few = c.tables_of-tables.ensures.fitting.registers k w.0 w.1 in
     omega (arith, count, extras, few)
 
 pub returns : goal.returns
 returns c =
-    let t = c.tables-of-tables.result.now in
+    let t = c.tables_of-tables.result.now in
     let k = c.args.k in
     let s = c.in-Some.ensures.spans in
-    let w = found_method (method_at (program_of t) k) (c.method.ensures.numbered c.tables-of-tables.ensures.whole ∙ s.method) in
-    let met : method_at (set_program c.args.set.now) k ≡ Some w.0 = ap (λ (u : Tables). method_at (program_of u) k) (sym c.tables-of-tables.ensures.tables) ∙ w.1 in
+    let w = found_method (method_at (program_of t) k) (c.method.ensures.numbered c.tables_of-tables.ensures.whole ∙ s.method) in
+    let met : method_at (set_program c.args.set.now) k ≡ Some w.0 = ap (λ (u : Tables). method_at (program_of u) k) (sym c.tables_of-tables.ensures.tables) ∙ w.1 in
     let count = ap length (record_params t s w.0 w.2) ∙ length_part c.in-Some.method.params t.params s.params.within in
     record {
       told = rw (met, eq-eqb (length c.args.args.now) (length w.0.method.params) (c.if-args-method.false ∙ sym count));
       opened = λ N e l.
-          c.open-first.ensures
+          c.open_first.ensures
           ∙ ap (λ x. fresh k c.args.this c.args.args.now x ∷ []) (sym (ap (λ d. d.extras) w.2) ∙ ap (λ (M : Owned). M.method.extras) (some_inj (sym met ∙ e)));
       kept = λ z. absurd (true≢false z);
     }

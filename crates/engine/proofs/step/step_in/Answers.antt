@@ -21,7 +21,7 @@ returns-then-pc-code g c =
     let fs = frames_of c.args.frames.now in
     let m = c.in-Some.ensures.spans in
     let w = found_method (method_at P c.method.result) (c.method-2.ensures.numbered c.requires.whole ∙ m.method) in
-    let code = ap length (record_code t m w.0 w.2 ∙ sym c.code-from-code.ensures) in
+    let code = ap length (record_code t m w.0 w.2 ∙ sym c.code_from-code.ensures) in
     rw (next_past P (g.H.Heap.meaning c.args.heap.now) fs (ap (method_at P) (sym c.method.ensures) ∙ w.1) (omega (arith, code)))
 
 pub exec-requires : goal.exec-requires
@@ -32,7 +32,7 @@ exec-requires g c =
     let m = c.in-Some.ensures.spans in
     let w = found_method (method_at P k) (c.method-2.ensures.numbered c.requires.whole ∙ m.method) in
     let within = m.code.within in
-    let code = ap length c.code-from-code.ensures ∙ length_part c.in-Some.method.code t.instrs within in
+    let code = ap length c.code_from-code.ensures ∙ length_part c.in-Some.method.code t.instrs within in
     let all = t.all_instrs in
     let height = ap (λ d. d.height) w.2 in
     let fit : w.0.method.height ≤ cell_limit = c.requires.fitting.heights k w.0 w.1 in
@@ -53,8 +53,8 @@ returns g c =
     let n = lowest_length s.frames s.count (omega arith) in
     let m = c.in-Some.ensures.spans in
     let w = found_method (method_at P c.method.result) (c.method-2.ensures.numbered c.requires.whole ∙ m.method) in
-    let is = c.code-from-code.result.now in
-    let code = record_code t m w.0 w.2 ∙ sym c.code-from-code.ensures in
+    let is = c.code_from-code.result.now in
+    let code = record_code t m w.0 w.2 ∙ sym c.code_from-code.ensures in
     let at = ap (λ l. slice_get l (top_pc fs)) code ∙ ap (slice_get is) (sym c.pc-pc.ensures) ∙ slice_get-get_or is c.pc-pc.result (Load 0) (omega arith) in
     rw (next_is P (g.H.Heap.meaning c.args.heap.now) fs (omega (arith, n)) (ap (method_at P) (sym c.method.ensures) ∙ w.1) at)
     (c.exec.ensures w.0 (record {

@@ -29,7 +29,7 @@ returns c =
     let w = found_method (method_at P f.method) (c.method.ensures.numbered c.requires.whole ∙ s) in
     let l = held_length f.cells f.height (omega arith) in
     let high = ap (λ m. m.height) w.2 in
-    let is = rw s at c.code-of.ensures in
+    let is = rw s at c.code_of.ensures in
     let fit : w.0.method.height ≤ cell_limit = c.requires.fitting.heights f.method w.0 w.1 in
     let k = c.if-depth-method.false in
     record {

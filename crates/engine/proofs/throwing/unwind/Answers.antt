@@ -2,9 +2,9 @@ use Rattle.std.proofs.Common.{◌-◌, arith}
 use Rattle.engine.proofs.Waits.{waits_same}
 use Rattle.engine.proofs.throwing.unwind.Goals as goal
 
-pub invariant-of-frames-in-At : goal.invariant-of-frames-in-At
-invariant-of-frames-in-At c =
+pub invariant_of-frames-in-At : goal.invariant_of-frames-in-At
+invariant_of-frames-in-At c =
     let s = c.args.frames.now in
     let below = c.in-At.ensures.0 in
-    let waits = waits_same s.frames c.land-at.new.frames (s.count - 1) c.in-At.k c.land-at.ensures.below (omega (arith, below)) s.waiting in
+    let waits = waits_same s.frames c.land_at.new.frames (s.count - 1) c.in-At.k c.land_at.ensures.below (omega (arith, below)) s.waiting in
     (omega arith, (omega (arith, below), (λ k d z l. waits k d z (omega arith), tt)))

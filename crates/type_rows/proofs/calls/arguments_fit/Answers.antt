@@ -12,19 +12,19 @@ returns-then-params-n c =
     let a = arguments_length c.args.n st (omega (arith, c.requires.held)) in
     sym (lengths_differ (program_of c.args.tables.now) (arguments c.args.n st) c.args.params.now (λ e. c.if-params-n.true (omega arith)))
 
-pub returns-then-not-lies-below : goal.returns-then-not-lies-below
-returns-then-not-lies-below c =
+pub returns-then-not-lies_below : goal.returns-then-not-lies_below
+returns-then-not-lies_below c =
     let st = types_of c.args.stack.now in
     let n = c.args.n in
     let long : length c.args.params.now ≡ n = omega (arith, c.if-params-n.false) in
-    sym (argument_fails (program_of c.args.tables.now) n st c.args.params.now c.loop-j.j c.in-Some.t _ _ (omega (arith, c.requires.held)) (omega (arith, c.loop-j-test.true)) long c.in-Some.ensures (sym c.if-not-lies-below.ensures)) ∙ c.loop-j.invariant
+    sym (argument_fails (program_of c.args.tables.now) n st c.args.params.now c.loop-j.j c.in-Some.t _ _ (omega (arith, c.requires.held)) (omega (arith, c.loop-j-test.true)) long c.in-Some.ensures (sym c.if-not-lies_below.ensures)) ∙ c.loop-j.invariant
 
 pub loop-j-preserved : goal.loop-j-preserved
 loop-j-preserved c =
     let st = types_of c.args.stack.now in
     let n = c.args.n in
     let long : length c.args.params.now ≡ n = omega (arith, c.if-params-n.false) in
-    argument_fits (program_of c.args.tables.now) n st c.args.params.now c.loop-j.j c.in-Some.t _ _ (omega (arith, c.requires.held)) (omega (arith, c.loop-j-test.true)) long c.in-Some.ensures (sym c.if-not-lies-below.ensures) ∙ c.loop-j.invariant
+    argument_fits (program_of c.args.tables.now) n st c.args.params.now c.loop-j.j c.in-Some.t _ _ (omega (arith, c.requires.held)) (omega (arith, c.loop-j-test.true)) long c.in-Some.ensures (sym c.if-not-lies_below.ensures) ∙ c.loop-j.invariant
 
 pub returns : goal.returns
 returns c =

@@ -8,8 +8,8 @@ use Rattle.type_rows.specs.Methods.{the_method}
 use Rattle.type_rows.proofs.Limits.{method_limited, record_method, record_at, record_there, record_params}
 use Rattle.type_rows.proofs.make.of_record.Goals as goal
 
-pub invariant-of-result : goal.invariant-of-result
-invariant-of-result c =
+pub invariant_of-result : goal.invariant_of-result
+invariant_of-result c =
     let t = c.args.tables.now in
     let k = c.args.number in
     let r = c.args.method in

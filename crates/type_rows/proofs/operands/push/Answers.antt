@@ -9,8 +9,8 @@ returns-then-height-limit c =
     let s = c.args.stack.now in
     let h = c.height.ensures in
     let low : s.height < c.args.limit = omega (arith, c.if-height-limit.true) in
-    let e = c.number-of.ensures in
-    let p = pushed_type s.cells.now s.height c.number-of.result _ _ c.push.result c.args.limit c.args.t c.requires.small c.requires.room low e.small e.back c.push.ensures.pushed in
+    let e = c.number_of.ensures in
+    let p = pushed_type s.cells.now s.height c.number_of.result _ _ c.push.result c.args.limit c.args.t c.requires.small c.requires.room low e.small e.back c.push.ensures.pushed in
     record { told = p.told; pushed = λ t. p.pushed; small = p.small; long = p.long; same = c.push.ensures.same }
 
 pub returns-else-height-limit : goal.returns-else-height-limit

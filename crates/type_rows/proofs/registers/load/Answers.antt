@@ -8,7 +8,7 @@ pub returns-then-registers-n-ne-ABSENT : goal.returns-then-registers-n-ne-ABSENT
 returns-then-registers-n-ne-ABSENT c =
     let xs = c.args.registers.now in
     let n = c.args.n in
-    rw (nth_register xs n c.if-n-registers.true) (ap Some c.type-of.ensures ∙ sym (usable_number (get_or xs n 0) c.if-registers-n-ne-ABSENT.true))
+    rw (nth_register xs n c.if-n-registers.true) (ap Some c.type_of.ensures ∙ sym (usable_number (get_or xs n 0) c.if-registers-n-ne-ABSENT.true))
 
 pub returns-else-n-registers : goal.returns-else-n-registers
 returns-else-n-registers c =

@@ -11,8 +11,8 @@ pub returns-then-n-registers : goal.returns-then-n-registers
 returns-then-n-registers c =
     let xs = c.args.registers.now in
     let n = c.args.n in
-    let x = c.number-of.result in
-    let e = c.number-of.ensures in
+    let x = c.number_of.result in
+    let e = c.number_of.ensures in
     let l = length-map xs cell_of_number in
     let t = c.requires.told in
     let q = e.number in

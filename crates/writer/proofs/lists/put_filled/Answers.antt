@@ -8,6 +8,6 @@ use Rattle.writer.proofs.lists.put_filled.Goals as goal
 pub returns : goal.returns
 returns g c =
     let n = c.args.filled in
-    subst (λ (xs : List g.row.T.Denot). Puts c.put-range.result (pen_of c.args.pen.now) (pen_of c.put-range.new.pen) (counted_bytes (g.T.Item.stands c.args.tables.now) xs))
+    subst (λ (xs : List g.row.T.Denot). Puts c.put_range.result (pen_of c.args.pen.now) (pen_of c.put_range.new.pen) (counted_bytes (g.T.Item.stands c.args.tables.now) xs))
     (take-take n n c.args.table.now (omega arith))
-    c.put-range.ensures
+    c.put_range.ensures

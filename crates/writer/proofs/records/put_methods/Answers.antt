@@ -5,4 +5,4 @@ use Rattle.writer.proofs.Programs.{methods_stand}
 use Rattle.writer.proofs.records.put_methods.Goals as goal
 
 pub returns : goal.returns
-returns c = subst (Puts c.put-span.result _ _) (methods_stand c.args.tables.now c.args.span) c.put-span.ensures
+returns c = subst (Puts c.put_span.result _ _) (methods_stand c.args.tables.now c.args.span) c.put_span.ensures

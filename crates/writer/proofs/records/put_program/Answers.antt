@@ -5,4 +5,4 @@ use Rattle.writer.proofs.Programs.{classes_stand}
 use Rattle.writer.proofs.records.put_program.Goals as goal
 
 pub returns : goal.returns
-returns c = subst (Puts c.put-classes.result _ _) (classes_stand c.args.tables.now) c.put-classes.ensures
+returns c = subst (Puts c.put_classes.result _ _) (classes_stand c.args.tables.now) c.put_classes.ensures

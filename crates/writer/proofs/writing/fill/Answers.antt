@@ -8,5 +8,5 @@ use Rattle.writer.proofs.writing.fill.Goals as goal
 
 pub returns : goal.returns
 returns c =
-    let w = run_both {E = WriteFault} (Ok c.in-ok-run.field-0) _ _ _ _ _ (refl, c.requires.room, refl) c.in-ok-run.ensures in
+    let w = run_both {E = WriteFault} (Ok c.in_ok-run.field-0) _ _ _ _ _ (refl, c.requires.room, refl) c.in_ok-run.ensures in
     record { written = w; read = read_back (program_of c.args.tables.now) c.requires.kept _ _ _ w.0 w.1 }

@@ -17,6 +17,6 @@ returns c =
     let l = held_length f.cells c.args.keep (omega arith) in
     record {
       told = sym (lt-ltb _ _ (omega (arith, l)));
-      moved = λ _. c.go-with.ensures ∙ ap (λ p. at_place (frame_of f) p (c.args.value ∷ held f.cells c.args.keep)) (add-one f.pc);
+      moved = λ _. c.go_with.ensures ∙ ap (λ p. at_place (frame_of f) p (c.args.value ∷ held f.cells c.args.keep)) (add-one f.pc);
       kept = λ e. absurd (true≢false e);
     }

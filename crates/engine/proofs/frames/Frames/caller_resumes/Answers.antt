@@ -6,4 +6,4 @@ pub returns : goal.returns
 returns c =
     let s = c.args.self.now in
     let one : s.count - 2 + 1 ≡ s.count - 1 = omega arith in
-    rw (lowest_below s.frames s.count (omega arith) (omega arith)) (rw one at c.resumes-at.ensures)
+    rw (lowest_below s.frames s.count (omega arith) (omega arith)) (rw one at c.resumes_at.ensures)

@@ -3,8 +3,8 @@ use Rattle.engine.proofs.Tops.{lowest_below}
 use Rattle.engine.proofs.Waits.{waits_inside}
 use Rattle.engine.proofs.frames.Frames.leave.Goals as goal
 
-pub pass-with-requires : goal.pass-with-requires
-pass-with-requires c =
+pub pass_with-requires : goal.pass_with-requires
+pass_with-requires c =
     let s = c.args.self.now in
     let b = lowest_below s.frames s.count (omega arith) (omega arith) in
     let one : s.count - 2 + 1 ≡ s.count - 1 = omega arith in
@@ -18,4 +18,4 @@ pass-with-requires c =
 pub returns : goal.returns
 returns c =
     let s = c.args.self.now in
-    rw (lowest_below s.frames s.count (omega arith) (omega arith)) c.pass-with.ensures
+    rw (lowest_below s.frames s.count (omega arith) (omega arith)) c.pass_with.ensures

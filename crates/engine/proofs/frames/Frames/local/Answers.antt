@@ -2,13 +2,13 @@ use Rattle.std.proofs.Common.{◌≡◌, ◌+◌, ◌-◌, arith}
 use Rattle.engine.proofs.Waits.{waits_same}
 use Rattle.engine.proofs.frames.Frames.local.Goals as goal
 
-pub invariant-of-self : goal.invariant-of-self
-invariant-of-self g c =
+pub invariant_of-self : goal.invariant_of-self
+invariant_of-self g c =
     let s = c.args.self.now in
-    (omega arith, (omega arith, (waits_same s.frames c.local-at.new.frames (s.count - 1) (s.count - 1) c.local-at.ensures.below (omega arith) s.waiting, tt)))
+    (omega arith, (omega arith, (waits_same s.frames c.local_at.new.frames (s.count - 1) (s.count - 1) c.local_at.ensures.below (omega arith) s.waiting, tt)))
 
 pub returns : goal.returns
 returns g c P M e s l h =
     let n = c.args.self.now.count in
     let one : n - 1 + 1 ≡ n = omega arith in
-    rw one at (c.local-at.ensures.after P M e s l h)
+    rw one at (c.local_at.ensures.after P M e s l h)

@@ -3,15 +3,15 @@ use Rattle.engine.proofs.Tops.{lowest_length}
 use Rattle.engine.proofs.Waits.{waits_more}
 use Rattle.engine.proofs.frames.Frames.open_above.Goals as goal
 
-pub invariant-of-self : goal.invariant-of-self
-invariant-of-self c =
+pub invariant_of-self : goal.invariant_of-self
+invariant_of-self c =
     let s = c.args.self.now in
-    let waits = waits_more s.frames c.open-at.new.frames s.count c.open-at.ensures.below c.requires.some (omega arith) s.waiting c.requires.inside in
+    let waits = waits_more s.frames c.open_at.new.frames s.count c.open_at.ensures.below c.requires.some (omega arith) s.waiting c.requires.inside in
     let n = lowest_length s.frames s.count (omega arith) in
     (omega arith, (omega (arith, n), (λ k d z l. waits k d z (omega arith), tt)))
 
-pub open-at-requires : goal.open-at-requires
-open-at-requires c =
+pub open_at-requires : goal.open_at-requires
+open_at-requires c =
     let s = c.args.self.now in
     let n = lowest_length s.frames s.count (omega arith) in
     record { some = c.requires.some; within = omega (arith, n); high = c.requires.high; few = c.requires.few }

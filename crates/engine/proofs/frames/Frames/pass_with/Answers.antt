@@ -2,13 +2,13 @@ use Rattle.std.proofs.Common.{◌≡◌, ◌+◌, ◌-◌, arith}
 use Rattle.engine.proofs.Waits.{waits_same}
 use Rattle.engine.proofs.frames.Frames.pass_with.Goals as goal
 
-pub invariant-of-self : goal.invariant-of-self
-invariant-of-self c =
+pub invariant_of-self : goal.invariant_of-self
+invariant_of-self c =
     let s = c.args.self.now in
-    (omega arith, (omega arith, (waits_same s.frames c.pass-with-at.new.frames (s.count - 1) (s.count - 1) c.pass-with-at.ensures.below (omega arith) s.waiting, tt)))
+    (omega arith, (omega arith, (waits_same s.frames c.pass_with_at.new.frames (s.count - 1) (s.count - 1) c.pass_with_at.ensures.below (omega arith) s.waiting, tt)))
 
 pub returns : goal.returns
 returns c =
     let n = c.args.self.now.count in
     let one : n - 1 + 1 ≡ n = omega arith in
-    rw one at c.pass-with-at.ensures.after
+    rw one at c.pass_with_at.ensures.after

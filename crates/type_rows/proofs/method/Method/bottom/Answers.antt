@@ -6,4 +6,4 @@ use Rattle.type_rows.proofs.method.Method.bottom.Goals as goal
 pub returns : goal.returns
 returns c =
     let m = c.args.self.now in
-    record { shows = unreached_shown (program m) (owned m) c.write-unreached.ensures; means = unreached_read (owned m) c.write-unreached.ensures }
+    record { shows = unreached_shown (program m) (owned m) c.write_unreached.ensures; means = unreached_read (owned m) c.write_unreached.ensures }

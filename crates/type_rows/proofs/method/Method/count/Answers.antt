@@ -7,4 +7,4 @@ use Rattle.type_rows.proofs.method.Method.count.Goals as goal
 pub returns : goal.returns
 returns c =
     let m = c.args.self.now in
-    ap length (c.code-of-code.ensures ∙ code_unowned _ _ (methods_numbered m.tables.now m.number m.whole))
+    ap length (c.code_of-code.ensures ∙ code_unowned _ _ (methods_numbered m.tables.now m.number m.whole))

@@ -8,4 +8,4 @@ use Rattle.type_rows.proofs.method.Method.edges.Goals as goal
 pub returns : goal.returns
 returns c =
     let m = c.args.self.now in
-    ap (λ (l : List Handler). 2 + length l) (c.handlers-of-handlers.ensures ∙ handlers_unowned _ _ (methods_numbered m.tables.now m.number m.whole))
+    ap (λ (l : List Handler). 2 + length l) (c.handlers_of-handlers.ensures ∙ handlers_unowned _ _ (methods_numbered m.tables.now m.number m.whole))

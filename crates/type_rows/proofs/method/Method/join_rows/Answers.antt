@@ -34,7 +34,7 @@ returns-then-row-eq0 c =
     let P = program m in
     let n = rows.registers (owned m) in
     let y = read_row n c.args.other.now in
-    let same = c.copy-from-slice.ensures.after in
+    let same = c.copy_from_slice.ensures.after in
     let low = (merge_lattice (kept_is_well_formed P m.kept)).lowest y c.requires.other.in_use in
     record {
       shows = subst (Shows P (owned m)) (sym same) c.requires.other;

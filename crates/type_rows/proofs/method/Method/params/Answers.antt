@@ -7,4 +7,4 @@ use Rattle.type_rows.proofs.method.Method.params.Goals as goal
 pub returns : goal.returns
 returns c =
     let m = c.args.self.now in
-    c.params-of.ensures ∙ own_params_unowned _ _ (methods_numbered m.tables.now m.number m.whole)
+    c.params_of.ensures ∙ own_params_unowned _ _ (methods_numbered m.tables.now m.number m.whole)

@@ -8,4 +8,4 @@ pub returns : goal.returns
 returns c =
     let m = c.args.self.now in
     let t = m.tables.now in
-    c.params-of.ensures ∙ params_unowned _ _ (methods_numbered t c.args.k m.whole)
+    c.params_of.ensures ∙ params_unowned _ _ (methods_numbered t c.args.k m.whole)

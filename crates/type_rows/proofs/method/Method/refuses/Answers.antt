@@ -19,8 +19,8 @@ returns-then-row-eq0 c = let m = c.args.self.now in sym (refuses_unreached (prog
 pub returns-then-row-gt-REGISTERS : goal.returns-then-row-gt-REGISTERS
 returns-then-row-gt-REGISTERS c = let m = c.args.self.now in sym (refuses_clash (program m) (owned m) c.args.pc (rows.registers (owned m)) c.args.row.now (omega (arith, c.if-row-gt-REGISTERS.true)))
 
-pub refuses-reached-requires : goal.refuses-reached-requires
-refuses-reached-requires c =
+pub refuses_reached-requires : goal.refuses_reached-requires
+refuses_reached-requires c =
     let m = c.args.self.now in
     let P = program m in
     let M = owned m in

@@ -12,8 +12,8 @@ use Rattle.type_rows.proofs.Cells.{types_height}
 use Rattle.type_rows.proofs.Refused.{refused_told, code_unowned, handlers_unowned, pass_same}
 use Rattle.type_rows.proofs.method.Method.refuses_reached.Goals as goal
 
-pub returns-then-not-stays-inside : goal.returns-then-not-stays-inside
-returns-then-not-stays-inside c =
+pub returns-then-not-stays_inside : goal.returns-then-not-stays_inside
+returns-then-not-stays_inside c =
     let m = c.args.self.now in
     let P = program m in
     let M = owned m in
@@ -24,13 +24,13 @@ returns-then-not-stays-inside c =
     let es = leads c.in-Some.to c.args.pc st lt in
     let n = length M.method.code in
     let rest = handlers_pass P c.args.i c.args.pc (length (row_types row)) M.method.height n M.method.handlers in
-    let ends = ap length (c.code-of-end.ensures ∙ code_unowned _ _ (methods_numbered m.tables.now m.number m.whole)) in
-    let inside = sym (ap (λ (k : ℕ). all_inside k es) ends) ∙ sym (c.stays-inside.ensures st lt) ∙ c.if-not-stays-inside.true in
+    let ends = ap length (c.code_of-end.ensures ∙ code_unowned _ _ (methods_numbered m.tables.now m.number m.whole)) in
+    let inside = sym (ap (λ (k : ℕ). all_inside k es) ends) ∙ sym (c.stays_inside.ensures st lt) ∙ c.if-not-stays_inside.true in
     let told = refused_told P M c.args.i c.args.pc (row_types row) (row_cells m.registers row) es c.in-Some.ensures.sends in
-    ap not c.if-not-stays-inside.true ∙ sym (told ∙ ap (λ (b : Bool). not (b && rest)) inside)
+    ap not c.if-not-stays_inside.true ∙ sym (told ∙ ap (λ (b : Bool). not (b && rest)) inside)
 
-pub returns-else-not-stays-inside : goal.returns-else-not-stays-inside
-returns-else-not-stays-inside c =
+pub returns-else-not-stays_inside : goal.returns-else-not-stays_inside
+returns-else-not-stays_inside c =
     let m = c.args.self.now in
     let P = program m in
     let M = owned m in
@@ -42,13 +42,13 @@ returns-else-not-stays-inside c =
     let n = length M.method.code in
     let rest = handlers_pass P c.args.i c.args.pc (length (row_types row)) M.method.height n M.method.handlers in
     let numbered = methods_numbered m.tables.now m.number m.whole in
-    let ends = ap length (c.code-of-end.ensures ∙ code_unowned _ _ numbered) in
-    let inside = sym (ap (λ (k : ℕ). all_inside k es) ends) ∙ sym (c.stays-inside.ensures st lt) ∙ c.if-not-stays-inside.false in
+    let ends = ap length (c.code_of-end.ensures ∙ code_unowned _ _ numbered) in
+    let inside = sym (ap (λ (k : ℕ). all_inside k es) ends) ∙ sym (c.stays_inside.ensures st lt) ∙ c.if-not-stays_inside.false in
     let told = refused_told P M c.args.i c.args.pc (row_types row) (row_cells m.registers row) es c.in-Some.ensures.sends in
     let r = c.requires.reached in
     let behind = length-drop 1 row in
     let long = length-take-le 16 (drop 1 row) (omega (arith, r.whole)) in
     let low : get_or row 0 0 - 1 ≤ length (stack_part row) = omega (arith, r.low) in
     let high = types_height (stack_part row) (get_or row 0 0 - 1) low in
-    let all = pass_same P c.args.i c.args.pc (sym high) m.high ends (c.handlers-of-handlers.ensures ∙ handlers_unowned _ _ numbered) in
-    ap not (c.all-pass.ensures ∙ all) ∙ sym (told ∙ ap (λ (b : Bool). not (b && rest)) inside)
+    let all = pass_same P c.args.i c.args.pc (sym high) m.high ends (c.handlers_of-handlers.ensures ∙ handlers_unowned _ _ numbered) in
+    ap not (c.all_pass.ensures ∙ all) ∙ sym (told ∙ ap (λ (b : Bool). not (b && rest)) inside)

@@ -29,8 +29,8 @@ returns-then-row-gt-REGISTERS c =
     let m = c.args.self.now in
     record { shows = tt; sends = ap (carries (program m) (owned m) c.args.pc c.args.e) (read_clash (rows.registers (owned m)) c.args.row.now (omega (arith, c.if-row-gt-REGISTERS.true))) }
 
-pub send-reached-requires : goal.send-reached-requires
-send-reached-requires c =
+pub send_reached-requires : goal.send_reached-requires
+send_reached-requires c =
     let m = c.args.self.now in
     let P = program m in
     let M = owned m in
@@ -63,7 +63,7 @@ returns-in-Some c =
     let code = code_unowned _ _ (methods_numbered m.tables.now m.number m.whole) in
     let at : slice_get M.method.code pc ≡ Some c.in-Some.i = sym (ap (λ (l : List Instr). slice_get l pc) code) ∙ sym c.instr.ensures ∙ c.in-Some.is in
     let found = method_found (method_at P m.number) pc c.requires.node in
-    let x = edge_shown (kept_is_well_formed P m.kept) m.number found m.short pc c.args.e m.registers row c.send-reached.new.out c.send-reached.result at c.requires.node c.requires.edge m.wide (omega (arith, c.if-row-eq0.false)) (omega (arith, c.if-row-gt-REGISTERS.false)) c.requires.row.in_use c.requires.taken c.send-reached.ensures.sends c.send-reached.ensures.reached in
+    let x = edge_shown (kept_is_well_formed P m.kept) m.number found m.short pc c.args.e m.registers row c.send_reached.new.out c.send_reached.result at c.requires.node c.requires.edge m.wide (omega (arith, c.if-row-eq0.false)) (omega (arith, c.if-row-gt-REGISTERS.false)) c.requires.row.in_use c.requires.taken c.send_reached.ensures.sends c.send_reached.ensures.reached in
     record { shows = x.0; sends = x.1 }
 
 pub returns-in-None : goal.returns-in-None

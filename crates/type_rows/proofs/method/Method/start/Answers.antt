@@ -19,4 +19,4 @@ returns c =
     let few : length (table P) ≤ 32 = omega (arith, length_program t, t.few_classes) in
     let narrow : rows.registers (owned m) ≤ 16 = omega (arith, m.narrow, m.wide) in
     let u = first_in_use w m.number (method_stands m) in
-    record { shows = first_shown w few (owned m) narrow u c.write-first.ensures; means = first_read w few (owned m) narrow u c.write-first.ensures }
+    record { shows = first_shown w few (owned m) narrow u c.write_first.ensures; means = first_read w few (owned m) narrow u c.write_first.ensures }

@@ -13,13 +13,13 @@ returns c =
     let M = owned c.args.self.now in
     let st = types_of c.args.stack.now in
     let n = c.args.n in
-    let k = c.in-ok-k.k in
+    let k = c.in_ok-k.k in
     let lt = cells_in c.args.registers.now in
     let one : suc n ≡ n + 1 = omega arith in
     let e : drop (suc n) st ≡ drop (n + 1) st = ap (λ x. drop x st) one in
-    let seen = sym c.sees.ensures ∙ c.in-ok-k.was in
+    let seen = sym c.sees.ensures ∙ c.in_ok-k.was in
     record {
-      sends = call_sent P M c.args.m c.args.pc c.args.c k lt (arguments n st) (drop (suc n) st) seen ∙ ap (λ (l : List Ty). called P M k c.args.pc lt (arguments n st) l) e ∙ c.step-method.ensures.sends;
-      ready = c.step-method.ensures.ready;
-      same = c.step-method.ensures.same;
+      sends = call_sent P M c.args.m c.args.pc c.args.c k lt (arguments n st) (drop (suc n) st) seen ∙ ap (λ (l : List Ty). called P M k c.args.pc lt (arguments n st) l) e ∙ c.step_method.ensures.sends;
+      ready = c.step_method.ensures.ready;
+      same = c.step_method.ensures.same;
     }
