@@ -37,7 +37,7 @@ pub(crate) fn invoke<H: Heap>(
     requires fitting { Fitting (program_of tables.now) }
     requires some { 0 < frames.old.count }
     requires inside { top_pc (frames_of frames.old) < max_instrs }
-    ensures { Steps (program_of tables.now) height (instrs.Invoke name n) (meaning heap.now) (frames_of frames.old) result (meaning heap.now) (frames_of frames.new) }
+    ensures { Steps (program_of tables.now) height (instrs.Invoke name n) (H.Heap.meaning heap.now) (frames_of frames.old) result (H.Heap.meaning heap.now) (frames_of frames.new) }
 {
     let Some(receiver) = frames.operand(n as usize) else {
         return Next::Unsound;
@@ -66,7 +66,7 @@ fn call<H: Heap>(
     requires some { 0 < frames.old.count }
     requires inside { top_pc (frames_of frames.old) < max_instrs }
     requires high { n < length (top_stack (frames_of frames.old)) }
-    ensures { (M : Owned) → M.method.height ≡ height → (result, meaning heap.now, frames_of frames.new) ≡ settle (meaning heap.now) (frames_of frames.old) (call_top (program_of tables.now) (meaning heap.now) name n a M (frames_of frames.old)) }
+    ensures { (M : Owned) → M.method.height ≡ height → (result, H.Heap.meaning heap.now, frames_of frames.new) ≡ settle (H.Heap.meaning heap.now) (frames_of frames.old) (call_top (program_of tables.now) (H.Heap.meaning heap.now) name n a M (frames_of frames.old)) }
 {
     let Some(c) = class_at(heap, a) else {
         return Next::Unsound;
@@ -91,7 +91,7 @@ impl Frames {
     fn arguments_fit<H: Heap>(&self, tables: &Tables, heap: &H, n: usize, types: &[Ty]) -> bool
         requires some { 0 < self.now.count }
         requires high { n ≤ length (top_stack (frames_of self.now)) }
-        ensures { result ≡ fit_all (program_of tables.now) (meaning heap.now) (arguments n (top_stack (frames_of self.now))) types.now }
+        ensures { result ≡ fit_all (program_of tables.now) (H.Heap.meaning heap.now) (arguments n (top_stack (frames_of self.now))) types.now }
     {
         arguments_fit_at(tables, heap, &self.frames, self.count - 1, n, types)
     }
@@ -123,7 +123,7 @@ fn arguments_fit_at<H: Heap>(
 ) -> bool
     requires within { top < length frames.now }
     requires high { n ≤ length (top_stack (lowest_frames frames.now (top + 1))) }
-    ensures { result ≡ fit_all (program_of tables.now) (meaning heap.now) (arguments n (top_stack (lowest_frames frames.now (top + 1)))) types.now }
+    ensures { result ≡ fit_all (program_of tables.now) (H.Heap.meaning heap.now) (arguments n (top_stack (lowest_frames frames.now (top + 1)))) types.now }
 {
     fit_all(tables, heap, frames[top].arguments(n), types)
 }

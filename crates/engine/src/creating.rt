@@ -34,7 +34,7 @@ pub(crate) fn create<H: Heap>(
     requires some { 0 < frames.old.count }
     requires inside { top_pc (frames_of frames.old) < max_instrs }
     requires low { height ≤ cell_limit }
-    ensures { Steps (program_of tables.now) height (instrs.New c) (meaning heap.old) (frames_of frames.old) result (meaning heap.new) (frames_of frames.new) }
+    ensures { Steps (program_of tables.now) height (instrs.New c) (H.Heap.meaning heap.old) (frames_of frames.old) result (H.Heap.meaning heap.new) (frames_of frames.new) }
 {
     if !tables.is_class(c) {
         return Next::Unsound;
@@ -53,7 +53,7 @@ pub(crate) fn create<H: Heap>(
 
 // Adds an object of class `c` with the values that its fields start with, where there is room.
 pub(crate) fn add_object<H: Heap>(tables: &Tables, heap: &mut H, c: ClassNumber) -> Option<u16>
-    ensures { (result, meaning heap.new) ≡ created (program_of tables.now) (meaning heap.old) c }
+    ensures { (result, H.Heap.meaning heap.new) ≡ created (program_of tables.now) (H.Heap.meaning heap.old) c }
 {
     let n = tables.row_len(c);
     if n > ROW_LIMIT {
@@ -67,7 +67,7 @@ pub(crate) fn add_object<H: Heap>(tables: &Tables, heap: &mut H, c: ClassNumber)
 // Adds an object with the first `n` values, where there is room.
 fn append<H: Heap>(heap: &mut H, c: ClassNumber, row: &[Value], n: usize) -> Option<u16>
     requires { n ≤ length row.now }
-    ensures { (result, meaning heap.new) ≡ appended (meaning heap.old) c (take n row.now) }
+    ensures { (result, H.Heap.meaning heap.new) ≡ appended (H.Heap.meaning heap.old) c (take n row.now) }
 {
     match heap.add(c, &row[..n]) {
         Ok(a) => Some(a),

@@ -31,7 +31,7 @@ pub(crate) fn getfield<H: Heap>(
     requires fitting { Fitting (program_of tables.now) }
     requires some { 0 < frames.old.count }
     requires inside { top_pc (frames_of frames.old) < max_instrs }
-    ensures { Steps (program_of tables.now) height (instrs.Getfield name c) (meaning heap.now) (frames_of frames.old) result (meaning heap.now) (frames_of frames.new) }
+    ensures { Steps (program_of tables.now) height (instrs.Getfield name c) (H.Heap.meaning heap.now) (frames_of frames.old) result (H.Heap.meaning heap.now) (frames_of frames.new) }
 {
     let Some(v) = frames.operand(0) else {
         return Next::Unsound;
@@ -59,7 +59,7 @@ pub(crate) fn getfield<H: Heap>(
 
 // What stands at a place of the object at an address.
 fn value_at<H: Heap>(heap: &H, a: u16, i: usize) -> Option<Value>
-    ensures { result ≡ value_at (meaning heap.now) a i }
+    ensures { result ≡ value_at (H.Heap.meaning heap.now) a i }
 {
     match heap.read(a, i) {
         Ok(v) => Some(v),
@@ -75,7 +75,7 @@ pub(crate) fn field_value<H: Heap>(
     c: ClassNumber,
     a: u16,
 ) -> Option<Value>
-    ensures { result ≡ field_value (program_of tables.now) (meaning heap.now) field c a }
+    ensures { result ≡ field_value (program_of tables.now) (H.Heap.meaning heap.now) field c a }
 {
     let Some(d) = class_at(heap, a) else {
         return None;

@@ -19,7 +19,7 @@ const FIRST_CLASS: u16 = 4;
 
 // Whether the value fits the type.
 pub(crate) fn fits<H: Heap>(tables: &Tables, heap: &H, v: Value, t: Ty) -> bool
-    ensures { result ≡ fits (program_of tables.now) (meaning heap.now) v t }
+    ensures { result ≡ fits (program_of tables.now) (H.Heap.meaning heap.now) v t }
 {
     match v {
         Value::Addr(a) => match class_at(heap, a) {
@@ -45,7 +45,7 @@ fn fits_alone(tables: &Tables, v: Value, t: Ty) -> bool
 
 // Whether there are as many values as types, and each fits.
 pub(crate) fn fit_all<H: Heap>(tables: &Tables, heap: &H, values: &[Value], types: &[Ty]) -> bool
-    ensures { result ≡ fit_all (program_of tables.now) (meaning heap.now) values.now types.now }
+    ensures { result ≡ fit_all (program_of tables.now) (H.Heap.meaning heap.now) values.now types.now }
 {
     if values.len() != types.len() {
         return false;

@@ -17,7 +17,7 @@ use tables::tables::Tables;
 
 // The class of the object at an address.
 pub(crate) fn class_at<H: Heap>(heap: &H, a: u16) -> Option<ClassNumber>
-    ensures { result ≡ class_of (meaning heap.now) a }
+    ensures { result ≡ class_of (H.Heap.meaning heap.now) a }
 {
     match heap.class(a) {
         Ok(c) => Some(c),
@@ -29,7 +29,7 @@ pub(crate) fn class_at<H: Heap>(heap: &H, a: u16) -> Option<ClassNumber>
 pub(crate) fn raise<H: Heap>(tables: &Tables, heap: &H, frames: &mut Frames, a: u16) -> Next
     requires whole { Whole tables.now }
     requires fitting { Fitting (program_of tables.now) }
-    ensures { (result, meaning heap.now, frames_of frames.new) ≡ settle (meaning heap.now) (frames_of frames.old) (raise (program_of tables.now) (meaning heap.now) a (frames_of frames.old)) }
+    ensures { (result, H.Heap.meaning heap.now, frames_of frames.new) ≡ settle (H.Heap.meaning heap.now) (frames_of frames.old) (raise (program_of tables.now) (H.Heap.meaning heap.now) a (frames_of frames.old)) }
 {
     match class_at(heap, a) {
         Some(c) => unwind(tables, frames, a, c),

@@ -32,7 +32,7 @@ pub(crate) fn putfield<H: Heap>(
     requires fitting { Fitting (program_of tables.now) }
     requires some { 0 < frames.old.count }
     requires inside { top_pc (frames_of frames.old) < max_instrs }
-    ensures { Steps (program_of tables.now) height (instrs.Putfield name c) (meaning heap.old) (frames_of frames.old) result (meaning heap.new) (frames_of frames.new) }
+    ensures { Steps (program_of tables.now) height (instrs.Putfield name c) (H.Heap.meaning heap.old) (frames_of frames.old) result (H.Heap.meaning heap.new) (frames_of frames.new) }
 {
     let Some(reference) = frames.operand(1) else {
         return Next::Unsound;
@@ -68,7 +68,7 @@ fn put<H: Heap>(
     requires some { 0 < frames.old.count }
     requires inside { top_pc (frames_of frames.old) < max_instrs }
     requires high { 2 ≤ length (top_stack (frames_of frames.old)) }
-    ensures { (result, meaning heap.new, frames_of frames.new) ≡ settle (meaning heap.old) (frames_of frames.old) (put_top (program_of tables.now) (meaning heap.old) field c a v (frames_of frames.old)) }
+    ensures { (result, H.Heap.meaning heap.new, frames_of frames.new) ≡ settle (H.Heap.meaning heap.old) (frames_of frames.old) (put_top (program_of tables.now) (H.Heap.meaning heap.old) field c a v (frames_of frames.old)) }
 {
     let Some(d) = class_at(heap, a) else {
         return Next::Unsound;
@@ -85,8 +85,8 @@ fn put<H: Heap>(
 
 // Puts the value where the object at `a` has such a place.
 fn write<H: Heap>(heap: &mut H, a: u16, i: usize, v: Value) -> bool
-    ensures told { result ≡ has_field (meaning heap.old) a i }
-    ensures after { meaning heap.new ≡ after_write (meaning heap.old) a i v }
+    ensures told { result ≡ has_field (H.Heap.meaning heap.old) a i }
+    ensures after { H.Heap.meaning heap.new ≡ after_write (H.Heap.meaning heap.old) a i v }
 {
     match heap.write(a, i, v) {
         Ok(_) => true,

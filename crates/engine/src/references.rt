@@ -28,7 +28,7 @@ pub const OUT_OF_MEMORY_AT: u16 = 2;
 pub(crate) fn throw<H: Heap>(tables: &Tables, heap: &H, frames: &mut Frames, height: usize) -> Next
     requires whole { Whole tables.now }
     requires fitting { Fitting (program_of tables.now) }
-    ensures { Steps (program_of tables.now) height instrs.Throw (meaning heap.now) (frames_of frames.old) result (meaning heap.now) (frames_of frames.new) }
+    ensures { Steps (program_of tables.now) height instrs.Throw (H.Heap.meaning heap.now) (frames_of frames.old) result (H.Heap.meaning heap.now) (frames_of frames.new) }
 {
     let Some(v) = frames.operand(0) else {
         return Next::Unsound;
@@ -53,7 +53,7 @@ pub(crate) fn checkcast<H: Heap>(
     requires fitting { Fitting (program_of tables.now) }
     requires some { 0 < frames.old.count }
     requires inside { top_pc (frames_of frames.old) < max_instrs }
-    ensures { Steps (program_of tables.now) height (instrs.Checkcast c) (meaning heap.now) (frames_of frames.old) result (meaning heap.now) (frames_of frames.new) }
+    ensures { Steps (program_of tables.now) height (instrs.Checkcast c) (H.Heap.meaning heap.now) (frames_of frames.old) result (H.Heap.meaning heap.now) (frames_of frames.new) }
 {
     let Some(v) = frames.operand(0) else {
         return Next::Unsound;
@@ -82,7 +82,7 @@ fn cast<H: Heap>(tables: &Tables, heap: &H, frames: &mut Frames, c: ClassNumber,
     requires fitting { Fitting (program_of tables.now) }
     requires some { 0 < frames.old.count }
     requires inside { top_pc (frames_of frames.old) < max_instrs }
-    ensures { (v : Held) → Some v ≡ slice_get (top_stack (frames_of frames.old)) 0 → (result, meaning heap.now, frames_of frames.new) ≡ settle (meaning heap.now) (frames_of frames.old) (cast_top (program_of tables.now) (meaning heap.now) c a (frames_of frames.old)) }
+    ensures { (v : Held) → Some v ≡ slice_get (top_stack (frames_of frames.old)) 0 → (result, H.Heap.meaning heap.now, frames_of frames.new) ≡ settle (H.Heap.meaning heap.now) (frames_of frames.old) (cast_top (program_of tables.now) (H.Heap.meaning heap.now) c a (frames_of frames.old)) }
 {
     let Some(d) = class_at(heap, a) else {
         return Next::Unsound;

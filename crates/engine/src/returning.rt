@@ -31,7 +31,7 @@ pub(crate) fn return_value<H: Heap>(
     requires whole { Whole tables.now }
     requires fitting { Fitting (program_of tables.now) }
     requires some { 0 < frames.old.count }
-    ensures { (M : Owned) → M.method.result ≡ res → length M.method.params ≡ params → (result, meaning heap.now, frames_of frames.new) ≡ settle (meaning heap.now) (frames_of frames.old) (exec_top (program_of tables.now) instrs.Return (meaning heap.now) M (frames_of frames.old)) }
+    ensures { (M : Owned) → M.method.result ≡ res → length M.method.params ≡ params → (result, H.Heap.meaning heap.now, frames_of frames.new) ≡ settle (H.Heap.meaning heap.now) (frames_of frames.old) (exec_top (program_of tables.now) instrs.Return (H.Heap.meaning heap.now) M (frames_of frames.old)) }
 {
     let Some(v) = frames.operand(0) else {
         return Next::Unsound;

@@ -22,7 +22,7 @@ use set::set::Set;
 /// Adds an object of class `c` with the values that its fields start with, and answers its address. Nothing where the
 /// heap has no room; it stays then as it is.
 pub fn new_object<H: Heap>(set: &Set, heap: &mut H, c: ClassNumber) -> Option<u16>
-    ensures { MatchOption result ((add_object (set_program set.now) (meaning heap.old) c ≡ None) × (meaning heap.new ≡ meaning heap.old)) (λ a. (add_object (set_program set.now) (meaning heap.old) c ≡ Some (meaning heap.new)) × (a ≡ length (meaning heap.old).objects)) }
+    ensures { MatchOption result ((add_object (set_program set.now) (H.Heap.meaning heap.old) c ≡ None) × (H.Heap.meaning heap.new ≡ H.Heap.meaning heap.old)) (λ a. (add_object (set_program set.now) (H.Heap.meaning heap.old) c ≡ Some (H.Heap.meaning heap.new)) × (a ≡ length (H.Heap.meaning heap.old).objects)) }
 {
     add_object(set.tables(), heap, c)
 }

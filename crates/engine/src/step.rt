@@ -27,7 +27,7 @@ use tables::tables::Tables;
 
 /// One step of the top frame, and what it comes to. Only a step that goes on changes heap and frames.
 pub fn step<H: Heap>(set: &Set, heap: &mut H, frames: &mut Frames) -> Next
-    ensures { (result, meaning heap.new, frames_of frames.new) ≡ settle (meaning heap.old) (frames_of frames.old) (next_step (set_program set.now) (meaning heap.old) (frames_of frames.old)) }
+    ensures { (result, H.Heap.meaning heap.new, frames_of frames.new) ≡ settle (H.Heap.meaning heap.old) (frames_of frames.old) (next_step (set_program set.now) (H.Heap.meaning heap.old) (frames_of frames.old)) }
 {
     step_in(tables_of(set), heap, frames)
 }
@@ -36,7 +36,7 @@ pub fn step<H: Heap>(set: &Set, heap: &mut H, frames: &mut Frames) -> Next
 fn step_in<H: Heap>(tables: &Tables, heap: &mut H, frames: &mut Frames) -> Next
     requires whole { Whole tables.now }
     requires fitting { Fitting (program_of tables.now) }
-    ensures { (result, meaning heap.new, frames_of frames.new) ≡ settle (meaning heap.old) (frames_of frames.old) (next_step (program_of tables.now) (meaning heap.old) (frames_of frames.old)) }
+    ensures { (result, H.Heap.meaning heap.new, frames_of frames.new) ≡ settle (H.Heap.meaning heap.old) (frames_of frames.old) (next_step (program_of tables.now) (H.Heap.meaning heap.old) (frames_of frames.old)) }
 {
     if frames.count == 0 {
         return Next::Unsound;
@@ -66,7 +66,7 @@ fn exec<H: Heap>(
     requires some { 0 < frames.old.count }
     requires inside { top_pc (frames_of frames.old) < max_instrs }
     requires low { method.height ≤ cell_limit }
-    ensures { (M : Owned) → Recorded M method size → (result, meaning heap.new, frames_of frames.new) ≡ settle (meaning heap.old) (frames_of frames.old) (exec_top (program_of tables.now) instr (meaning heap.old) M (frames_of frames.old)) }
+    ensures { (M : Owned) → Recorded M method size → (result, H.Heap.meaning heap.new, frames_of frames.new) ≡ settle (H.Heap.meaning heap.old) (frames_of frames.old) (exec_top (program_of tables.now) instr (H.Heap.meaning heap.old) M (frames_of frames.old)) }
 {
     let height = method.height as usize;
     match instr {

@@ -35,7 +35,7 @@ impl<H: Heap> Machine<H> {
         name: Name,
         args: &[Value],
     ) -> Result<Ticket, Refusal>
-        ensures state { (numbered result, state meaning self.new) ≡ begin (program self.old) class name args.now (state meaning self.old) }
+        ensures state { (numbered result, state H.Heap.meaning self.new) ≡ begin (program self.old) class name args.now (state H.Heap.meaning self.old) }
         ensures program { program self.new ≡ program self.old }
     {
         match self.phase {
@@ -66,7 +66,7 @@ impl<H: Heap> Machine<H> {
 
 // Empties the heap and adds the exception objects and this object; where one is refused, the heap is left empty.
 fn first_objects<H: Heap>(set: &Set, heap: &mut H, class: ClassNumber) -> bool
-    ensures { MatchBool result (first_objects (set_program set.now) (after_empty (meaning heap.old)) class ≡ Some (meaning heap.new)) ((first_objects (set_program set.now) (after_empty (meaning heap.old)) class ≡ None) × (meaning heap.new ≡ after_empty (meaning heap.old))) }
+    ensures { MatchBool result (first_objects (set_program set.now) (after_empty (H.Heap.meaning heap.old)) class ≡ Some (H.Heap.meaning heap.new)) ((first_objects (set_program set.now) (after_empty (H.Heap.meaning heap.old)) class ≡ None) × (H.Heap.meaning heap.new ≡ after_empty (H.Heap.meaning heap.old))) }
 {
     heap.empty(); // the objects of the last run go
     if add_first(set, heap, class).is_some() {
@@ -78,8 +78,8 @@ fn first_objects<H: Heap>(set: &Set, heap: &mut H, class: ClassNumber) -> bool
 
 // Adds the exception objects and this object, as far as the heap takes them.
 fn add_first<H: Heap>(set: &Set, heap: &mut H, class: ClassNumber) -> Option<u16>
-    ensures objects { MatchOption result (first_objects (set_program set.now) (meaning heap.old) class ≡ None) (λ _. first_objects (set_program set.now) (meaning heap.old) class ≡ Some (meaning heap.new)) }
-    ensures lines { (meaning heap.new).lines ≡ (meaning heap.old).lines }
+    ensures objects { MatchOption result (first_objects (set_program set.now) (H.Heap.meaning heap.old) class ≡ None) (λ _. first_objects (set_program set.now) (H.Heap.meaning heap.old) class ≡ Some (H.Heap.meaning heap.new)) }
+    ensures lines { (H.Heap.meaning heap.new).lines ≡ (H.Heap.meaning heap.old).lines }
 {
     new_object(set, heap, NULL_POINTER)?;
     new_object(set, heap, CLASS_CAST)?;

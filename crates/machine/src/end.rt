@@ -14,7 +14,7 @@ impl<H: Heap> Machine<H> {
     /// machine is idle. Refused with 16 where it is idle and with 17 for another machine's ticket; a refusal changes
     /// nothing and hands the ticket back.
     pub fn end(&mut self, ticket: Ticket) -> Result<Ended, (Refusal, Ticket)>
-        ensures state { (told result, state meaning self.new) ≡ end (program self.old) ticket.machine (state meaning self.old) }
+        ensures state { (told result, state H.Heap.meaning self.new) ≡ end (program self.old) ticket.machine (state H.Heap.meaning self.old) }
         ensures ticket { HandedBack ticket result }
         ensures program { program self.new ≡ program self.old }
     {

@@ -21,7 +21,7 @@ pub fn history<H: Heap>(
     calls: &[Call],
     replies: &mut [Reply],
 ) -> Result<Machine<H>, Short<H>>
-    ensures { MatchResult result (λ m. (length calls.now ≤ length replies.old) × (program m ≡ accepted_program accepted) × Told (accepted_program accepted) (meaning heap) number calls.now replies.old replies.new (state meaning m)) (λ s. (length replies.old < length calls.now) × (s.heap ≡ heap) × (replies.new ≡ replies.old)) }
+    ensures { MatchResult result (λ m. (length calls.now ≤ length replies.old) × (program m ≡ accepted_program accepted) × Told (accepted_program accepted) (H.Heap.meaning heap) number calls.now replies.old replies.new (state H.Heap.meaning m)) (λ s. (length replies.old < length calls.now) × (s.heap ≡ heap) × (replies.new ≡ replies.old)) }
 {
     if replies.len() < calls.len() {
         return Err(Short { heap });

@@ -13,7 +13,7 @@ use verifier::accepted::Accepted;
 impl<H: Heap> Machine<H> {
     /// A machine of that number, idle. The heap is emptied.
     pub fn make(accepted: Accepted, mut heap: H, number: u32) -> Machine<H>
-        ensures state { state meaning result ≡ made (meaning heap) number }
+        ensures state { state H.Heap.meaning result ≡ made (H.Heap.meaning heap) number }
         ensures program { program result ≡ accepted_program accepted }
     {
         heap.empty();

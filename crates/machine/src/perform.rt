@@ -14,7 +14,7 @@ impl<H: Heap> Machine<H> {
     /// A call that is held as a value, as a script or a log has it: the ticket of a begin is handed out by its number,
     /// and an end brings one of any number.
     pub fn perform(&mut self, call: Call) -> Reply
-        ensures state { (result, state meaning self.new) ≡ perform (program self.old) (asked call.entry) (state meaning self.old) }
+        ensures state { (result, state H.Heap.meaning self.new) ≡ perform (program self.old) (asked call.entry) (state H.Heap.meaning self.old) }
         ensures program { program self.new ≡ program self.old }
     {
         match (self.phase, call) {

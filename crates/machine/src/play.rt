@@ -20,7 +20,7 @@ impl<H: Heap> Machine<H> {
         args: &[Value],
         n: u64,
     ) -> Result<Played, Refusal>
-        ensures state { (result, state meaning self.new) ≡ play (program self.old) class name args.now n (state meaning self.old) }
+        ensures state { (result, state H.Heap.meaning self.new) ≡ play (program self.old) class name args.now n (state H.Heap.meaning self.old) }
         ensures program { program self.new ≡ program self.old }
     {
         match self.begin(class, name, args) {

@@ -17,7 +17,7 @@ impl<H: Heap> Machine<H> {
     /// One step. It answers 0 stepped, 1 finished, 2 uncaught, 3 frames full or 4 unsound, and only 0 changes anything.
     /// Refused with 16 where the machine is idle.
     pub fn step(&mut self) -> Result<Answer, Refusal>
-        ensures state { (result, state meaning self.new) ≡ step_call (program self.old) (state meaning self.old) }
+        ensures state { (result, state H.Heap.meaning self.new) ≡ step_call (program self.old) (state H.Heap.meaning self.old) }
         ensures program { program self.new ≡ program self.old }
     {
         match self.phase {
@@ -31,7 +31,7 @@ impl<H: Heap> Machine<H> {
     /// Steps until `n` answered 0 or another answer came: how many answered 0, and the last answer (0 where `n` is 0).
     /// Refused with 16 where the machine is idle.
     pub fn run(&mut self, n: u64) -> Result<Ran, Refusal>
-        ensures state { (result, state meaning self.new) ≡ run_call (program self.old) n (state meaning self.old) }
+        ensures state { (result, state H.Heap.meaning self.new) ≡ run_call (program self.old) n (state H.Heap.meaning self.old) }
         ensures program { program self.new ≡ program self.old }
     {
         match self.phase {
@@ -44,7 +44,7 @@ impl<H: Heap> Machine<H> {
 
     // At most n steps of a machine that is not idle.
     pub(crate) fn go(&mut self, n: u64) -> Ran
-        ensures state { (result, state meaning self.new) ≡ states.run (program self.old) n (state meaning self.old) }
+        ensures state { (result, state H.Heap.meaning self.new) ≡ states.run (program self.old) n (state H.Heap.meaning self.old) }
         ensures program { program self.new ≡ program self.old }
     {
         for count in 0..n {
@@ -62,7 +62,7 @@ impl<H: Heap> Machine<H> {
 
     // One step of a machine that is not idle: a run of one, so that the step itself stands in the run alone.
     pub(crate) fn act(&mut self) -> Answer
-        ensures state { (result, state meaning self.new) ≡ states.step (program self.old) (state meaning self.old) }
+        ensures state { (result, state H.Heap.meaning self.new) ≡ states.step (program self.old) (state H.Heap.meaning self.old) }
         ensures program { program self.new ≡ program self.old }
     {
         self.go(1).last
@@ -70,7 +70,7 @@ impl<H: Heap> Machine<H> {
 
     // The step of a run.
     fn go_on(&mut self) -> Answer
-        ensures state { (result, state meaning self.new) ≡ states.step (program self.old) (state meaning self.old) }
+        ensures state { (result, state H.Heap.meaning self.new) ≡ states.step (program self.old) (state H.Heap.meaning self.old) }
         ensures program { program self.new ≡ program self.old }
     {
         match self.phase {
@@ -84,7 +84,7 @@ impl<H: Heap> Machine<H> {
     // The instruction of the top frame.
     fn advance(&mut self) -> Answer
         requires { self.old.phase ≡ phases.Running }
-        ensures state { (result, state meaning self.new) ≡ states.settled (state meaning self.old) (next_step (program self.old) (meaning self.old.heap) (state meaning self.old).frames) }
+        ensures state { (result, state H.Heap.meaning self.new) ≡ states.settled (state H.Heap.meaning self.old) (next_step (program self.old) (H.Heap.meaning self.old.heap) (state H.Heap.meaning self.old).frames) }
         ensures program { program self.new ≡ program self.old }
     {
         match step(self.accepted.set(), &mut self.heap, &mut self.frames) {
@@ -103,7 +103,7 @@ impl<H: Heap> Machine<H> {
     // The run is over with this outcome, and has no frames.
     fn finish(&mut self, phase: Phase, outcome: Outcome) -> Answer
         ensures answer { result ≡ answers.Stepped }
-        ensures state { state meaning self.new ≡ states.over (state meaning self.old) phase outcome }
+        ensures state { state H.Heap.meaning self.new ≡ states.over (state H.Heap.meaning self.old) phase outcome }
         ensures program { program self.new ≡ program self.old }
     {
         self.frames.clear();

@@ -68,7 +68,7 @@ module _ {P : Program} (w : WellFormed P) (M : Owned) (k : ℕ) (m : method_at P
   cut_in_use pc l = go (leb (row_height (rows pc)) M.method.height) refl
     where
       go : (b : Bool) → leb (row_height (rows pc)) M.method.height ≡ b → InUse P M (merged (cond b (rows pc) unreached))
-      go true e = row_in_use (t.rows_of_lem pc l) (leb-true _ _ e)
+      go true e = row_in_use (t.rows_of pc l) (leb-true _ _ e)
       go false e = row_in_use no_row (omega arith)
 
   -- what flows to a row lands on the cut one
@@ -144,7 +144,7 @@ module _ {P : Program} (w : WellFormed P) (M : Owned) (k : ℕ) (m : method_at P
       go r q false f = nothing_lands
       go unreached q true f = nothing_lands
       go (reached st lt) q true f =
-          let u = row_in_use (subst (RowOf P M) q (t.rows_of_lem pc l)) (leb-true _ _ f) in
+          let u = row_in_use (subst (RowOf P M) q (t.rows_of pc l)) (leb-true _ _ f) in
           rw (carries_at w M pc at e st lt) (typed_lands pc i st lt at q u e)
 
   pub typing_solves : Solution (type_rows P M k w m few) (λ pc. cut M (rows pc))

@@ -22,4 +22,14 @@ invariant_of-result c =
     let extras : r.extras ≡ (the_method P k).method.extras = sym (ap (λ (m : MethodDecl). m.extras) is) in
     let params = record_params t k r whole s in
     let wide : 1 + r.params.count + r.extras ≡ rows.registers (the_method P k) = omega arith in
-    (c.requires.kept, (whole, (record_there t k r whole s, (limits.code, (high, (omega (arith, limits.height), (wide, (omega (arith, limits.registers), (sym (ap (λ (m : MethodDecl). type_number m.result) is), tt)))))))))
+    record {
+      kept = c.requires.kept;
+      whole = whole;
+      there = record_there t k r whole s;
+      short = limits.code;
+      high = high;
+      low = omega (arith, limits.height);
+      wide = wide;
+      narrow = omega (arith, limits.registers);
+      gives = sym (ap (λ (m : MethodDecl). type_number m.result) is);
+    }
