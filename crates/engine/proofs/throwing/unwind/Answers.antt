@@ -7,4 +7,4 @@ invariant_of-frames-in-At c =
     let s = c.args.frames.now in
     let below = c.in-At.ensures.0 in
     let waits = waits_same s.frames c.land_at.new.frames (s.count - 1) c.in-At.k c.land_at.ensures.below (omega (arith, below)) s.waiting in
-    (omega arith, (omega (arith, below), (λ k d z l. waits k d z (omega arith), tt)))
+    record { all = omega arith; shallow = omega (arith, below); waiting = λ k d z l. waits k d z (omega arith) }

@@ -9,11 +9,11 @@ loop-taken-preserved g c =
     let n = g.H.Heap.meaning c.add.new.self in
     let ls = (g.H.Heap.meaning c.clear.new.heap).lines in
     taken m n c.args.class c.args.row.now c.add.result c.add.ensures.answer c.add.ensures.after c.loop-taken.invariant.1 ls c.loop-taken.taken
-    (sym c.is-ok.ensures.value ∙ c.loop-taken-test.true)
+    (sym c.is_ok.ensures.value ∙ c.loop-taken-test.true)
     c.loop-taken.invariant.0
 
-pub overflow-add-taken : goal.overflow-add-taken
-overflow-add-taken g c = let k = (loop-taken-preserved g c).2 in omega arith
+pub overflow_add-taken : goal.overflow_add-taken
+overflow_add-taken g c = let k = (loop-taken-preserved g c).2 in omega arith
 
 pub loop-taken-smaller : goal.loop-taken-smaller
 loop-taken-smaller g c = let k = (loop-taken-preserved g c).2 in omega arith
@@ -25,6 +25,6 @@ returns g c =
     let ls = (g.H.Heap.meaning c.args.heap.now).lines in
     let l = ap (λ x. holding x.lines c.loop-taken.taken c.args.class c.args.row.now) c.clear.ensures.after in
     let r = refused m n c.args.class c.args.row.now c.add.result c.add.ensures.answer c.add.ensures.after c.loop-taken.invariant.1 ls c.loop-taken.taken
-    (sym c.is-ok.ensures.value ∙ c.loop-taken-test.false)
+    (sym c.is_ok.ensures.value ∙ c.loop-taken-test.false)
     (c.loop-taken.invariant.0 ∙ l) in
     record { after = r.0; full = r.1; within = r.2 }

@@ -2,5 +2,5 @@
 use Rattle.verifier.proofs.Unowned.{nothing_typable}
 use Rattle.verifier.proofs.hold.of_nothing.Goals as goal
 
-pub invariant-of-result : goal.invariant-of-result
-invariant-of-result c = (∣ nothing_typable _ c.requires ∣₁, tt)
+pub invariant_of-result : goal.invariant_of-result
+invariant_of-result c = record { typed = ∣ nothing_typable _ c.requires ∣₁ }

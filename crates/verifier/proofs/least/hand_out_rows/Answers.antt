@@ -15,12 +15,12 @@ loop-i-preserved c =
     let was = c.args.workspace.now in
     let ws = c.loop-i.workspace in
     let i = c.loop-i.i in
-    let y = c.hand-out.new.row in
+    let y = c.hand_out.new.row in
     let k = (i * 33 + 33) - i * 33 in
     let width : k ≡ 33 = omega arith in
     let room : i * 33 + 33 ≤ length ws = omega (arith, c.loop-i-test.true, c.count-i-end.ensures, c.requires, c.loop-i.auto.workspace) in
     let long : length y ≡ 33 = search rules in
     let n = rows.registers (owned m) in
-    let shown = c.hand-out.ensures ∙ ap (λ (j : ℕ). row_numbers (row_of (read_row n (take j (drop (i * 33) ws))))) width ∙ ap (λ (l : List ℕ). row_numbers (row_of (read_row n (take 33 l)))) c.loop-i.invariant.1 in
+    let shown = c.hand_out.ensures ∙ ap (λ (j : ℕ). row_numbers (row_of (read_row n (take j (drop (i * 33) ws))))) width ∙ ap (λ (l : List ℕ). row_numbers (row_of (read_row n (take 33 l)))) c.loop-i.invariant.1 in
     let T = rows_of (table (method_framework m) was) in
     (row_more T ws was y i room long k c.loop-i.invariant.0 shown, rest_same T ws was y i room long k width c.loop-i.invariant.1)

@@ -8,7 +8,7 @@ use Rattle.verifier.specs.Accepted.{accepted_program}
 use Rattle.verifier.proofs.Kept.{seen_method}
 use Rattle.verifier.proofs.least.least_table.Goals as goal
 
-pub write-least-requires : goal.write-least-requires
-write-least-requires c =
+pub write_least-requires : goal.write_least-requires
+write_least-requires c =
     let same = ap (λ (t : Tables). sees (program_of t) c.args.class c.args.name) (c.tables.ensures ∙ ap tables_of c.set.ensures) in
     record { there = seen_method (accepted_program c.args.accepted.now) c.args.class c.args.name (sym same ∙ sym c.in-Some.ensures); room = omega arith }

@@ -22,17 +22,17 @@ returns-in-Some c =
     let is = subst (λ (s : Set). MethodOf (set_program s) k m) c.set.ensures c.in-Some.ensures in
     let T = table (method_framework m) c.walk-solved.new.workspace in
     let solved = accepted_solved a k m is c.args.workspace.now c.walk-solved.new.workspace c.requires.room c.walk-solved.result c.walk-solved.ensures.answer in
-    let ws = c.hand-out-rows.new.workspace in
+    let ws = c.hand_out_rows.new.workspace in
     let n = length (owned m).method.code in
-    let long : length ws ≡ length c.args.workspace.now = c.hand-out-rows.auto.workspace ∙ c.walk-solved.auto.workspace in
+    let long : length ws ≡ length c.args.workspace.now = c.hand_out_rows.auto.workspace ∙ c.walk-solved.auto.workspace in
     record {
       method = owned m;
       stands = method_there m P k is;
       rows = rows_of T;
       least = least_solved m P k is T solved;
       numbers =
-          c.clear-from.ensures
+          c.clear_from.ensures
           ∙ ap (λ (j : ℕ). take (j * 33) ws ++ replicate (length ws - j * 33) absent) c.count.ensures
-          ∙ ap (λ (l : List ℕ). l ++ replicate (length ws - n * 33) absent) c.hand-out-rows.ensures
+          ∙ ap (λ (l : List ℕ). l ++ replicate (length ws - n * 33) absent) c.hand_out_rows.ensures
           ∙ ap (λ (j : ℕ). table_numbers (rows_of T) n ++ replicate (j - n * 33) absent) long;
     }

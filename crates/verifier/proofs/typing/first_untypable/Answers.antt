@@ -8,7 +8,7 @@ use Rattle.verifier.proofs.Solved.{past_typed}
 use Rattle.verifier.proofs.typing.first_untypable.Goals as goal
 
 pub loop-k-preserved : goal.loop-k-preserved
-loop-k-preserved c = below_more (TypedAt (set_program c.args.set.now)) c.loop-k.k c.loop-k.invariant c.if-not-is-typable.ensures
+loop-k-preserved c = below_more (TypedAt (set_program c.args.set.now)) c.loop-k.k c.loop-k.invariant c.if-not-is_typable.ensures
 
 pub returns : goal.returns
 returns c =

@@ -2,5 +2,5 @@
 use Rattle.verifier.proofs.Solved.{all_typable}
 use Rattle.verifier.proofs.verify.accept.Goals as goal
 
-pub invariant-of-result : goal.invariant-of-result
-invariant-of-result c = (∣ all_typable _ c.requires ∣₁, tt)
+pub invariant_of-result : goal.invariant_of-result
+invariant_of-result c = record { typed = ∣ all_typable _ c.requires ∣₁ }

@@ -8,7 +8,7 @@ invariant_of-self c =
     let s = c.args.self.now in
     let waits = waits_more s.frames c.open_at.new.frames s.count c.open_at.ensures.below c.requires.some (omega arith) s.waiting c.requires.inside in
     let n = lowest_length s.frames s.count (omega arith) in
-    (omega arith, (omega (arith, n), (λ k d z l. waits k d z (omega arith), tt)))
+    record { all = omega arith; shallow = omega (arith, n); waiting = λ k d z l. waits k d z (omega arith) }
 
 pub open_at-requires : goal.open_at-requires
 open_at-requires c =

@@ -5,7 +5,7 @@ use Rattle.engine.proofs.frames.Frames.pass.Goals as goal
 pub invariant_of-self : goal.invariant_of-self
 invariant_of-self c =
     let s = c.args.self.now in
-    (omega arith, (omega arith, (waits_same s.frames c.pass_at.new.frames (s.count - 1) (s.count - 1) c.pass_at.ensures.below (omega arith) s.waiting, tt)))
+    record { all = omega arith; shallow = omega arith; waiting = waits_same s.frames c.pass_at.new.frames (s.count - 1) (s.count - 1) c.pass_at.ensures.below (omega arith) s.waiting }
 
 pub returns : goal.returns
 returns c =
