@@ -14,9 +14,9 @@ loop-count-preserved g c =
     let P = program c.args.self.now in
     let inv = c.loop-count.invariant in
     let s = state g.H.Heap.meaning c.loop-count.self in
-    let t = state g.H.Heap.meaning c.go-on-last.new.self in
+    let t = state g.H.Heap.meaning c.go_on-last.new.self in
     let e : (Stepped, t) ≡ step P s = subst (λ (Q : Program). (Stepped, t) ≡ step Q s) inv.1 c.in-Stepped.ensures.state in
-    (run_more P c.args.n c.loop-count.count s t _ c.loop-count-test.true inv.0 e, c.go-on-last.ensures.program ∙ inv.1)
+    (run_more P c.args.n c.loop-count.count s t _ c.loop-count-test.true inv.0 e, c.go_on-last.ensures.program ∙ inv.1)
 
 pub returns : goal.returns
 returns g c =
@@ -25,14 +25,14 @@ returns g c =
       program = c.loop-count.invariant.1;
     }
 
-pub returns-in-default : goal.returns-in-default
-returns-in-default g c =
+pub returns-in_default : goal.returns-in_default
+returns-in_default g c =
     let P = program c.args.self.now in
     let inv = c.loop-count.invariant in
     let s = state g.H.Heap.meaning c.loop-count.self in
-    let t = state g.H.Heap.meaning c.go-on-last.new.self in
-    let e : (c.go-on-last.result, t) ≡ step P s = subst (λ (Q : Program). (c.go-on-last.result, t) ≡ step Q s) inv.1 c.go-on-last.ensures.state in
+    let t = state g.H.Heap.meaning c.go_on-last.new.self in
+    let e : (c.go_on-last.result, t) ≡ step P s = subst (λ (Q : Program). (c.go_on-last.result, t) ≡ step Q s) inv.1 c.go_on-last.ensures.state in
     record {
-      state = run_stop P c.args.n c.loop-count.count s t _ c.go-on-last.result c.loop-count-test.true inv.0 e c.in-default.not-Stepped;
-      program = c.go-on-last.ensures.program ∙ inv.1;
+      state = run_stop P c.args.n c.loop-count.count s t _ c.go_on-last.result c.loop-count-test.true inv.0 e c.in_default.not-Stepped;
+      program = c.go_on-last.ensures.program ∙ inv.1;
     }
