@@ -34,7 +34,7 @@ use Rattle.jinja.specs.Calls.{begun, emptied, add_object, first_objects, begin_w
 use Rattle.jinja.specs.Fits.{PhaseFits, idle_fits, running_fits, finished_fits, uncaught_fits, StateFits}
 use Rattle.jinja.specs.History.{if_stepped, if_awake, Event, after, run_answers, call_answers, step_answers, instr_at, step_events, run_events, begin_events, call_events, events, objects_made}
 use Rattle.jinja.specs.History.{empties, opens, does}
-use Rattle.jinja.specs.Promise.{FramesFit, no_frames, frames_stand, Promise, HistoriesKeep}
+use Rattle.jinja.specs.Promise.{FramesFit, no_frames, frames_stand, Promise, HistoriesKeep, TypableHistoriesKeep}
 use Rattle.jinja.proofs.Options.{conflict, some_inj, all_nth}
 use Rattle.jinja.proofs.Bridge.{passed, tested}
 use Rattle.jinja.proofs.LeastTyping.{least_typings}
@@ -245,5 +245,8 @@ promise_kept {P} {Φ} w typed h number calls =
     }
 
 pub histories_keep : HistoriesKeep
-histories_keep P w Φ typed =
+histories_keep P w Φ least = promise_kept w (λ k M e. (least k M e).typing)
+
+pub typable_histories_keep : TypableHistoriesKeep
+typable_histories_keep P w Φ typed =
     let t = least_typings w Φ typed in record { typings = t.0; least = t.1; promise = promise_kept w (λ k M e. (t.1 k M e).typing) }

@@ -35,6 +35,11 @@ pub record Promise (P : Program) (Φ : ℕ → Table) (h : Meaning) (number : �
   pub lines_stay : (after P calls (made h number)).heap.lines ≡ h.lines
   pub charged : (i : ℕ) (l : ChargeLine) → slice_get h.lines i ≡ Some l → Charged P (after P calls (made h number)).heap (objects_made P h.lines (events P calls (made h number)) []) l
 
+-- for every program that keeps the rules, given the least well-typing of each of its methods, whatever the
+-- lines of the heap, and every list of calls
+abbrev pub HistoriesKeep : Type 0
+HistoriesKeep = (P : Program) → WellFormed P → (Φ : ℕ → Table) → LeastTypings P Φ → (h : Meaning) (number : ℕ) (calls : List Call) → Promise P Φ h number calls
+
 -- the least well-typings of all methods, and the promise with them: whatever the lines of the heap, and for every list of calls
 pub record HistoriesKept (P : Program) : Type 0 where
   pub typings : ℕ → Table
@@ -42,5 +47,5 @@ pub record HistoriesKept (P : Program) : Type 0 where
   pub promise : (h : Meaning) (number : ℕ) (calls : List Call) → Promise P typings h number calls
 
 -- for every program that keeps the rules and whose methods all have well-typings
-abbrev pub HistoriesKeep : Type 0
-HistoriesKeep = (P : Program) → WellFormed P → (Φ : ℕ → Table) → WellTypings P Φ → HistoriesKept P
+abbrev pub TypableHistoriesKeep : Type 0
+TypableHistoriesKeep = (P : Program) → WellFormed P → (Φ : ℕ → Table) → WellTypings P Φ → HistoriesKept P

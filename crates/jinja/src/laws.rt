@@ -3,7 +3,7 @@ ghost use Rattle.jinja.specs.ClassLaws.{ClassOrderHolds, ClassInheritance};
 ghost use Rattle.jinja.specs.Example.{ExampleStands};
 ghost use Rattle.jinja.specs.HeapLaws.{HeapLawsHold};
 ghost use Rattle.jinja.specs.MachineLaws.{LookLawsHold, MachineLawsHold, NoAddressBegins, ValuesWhole};
-ghost use Rattle.jinja.specs.Promise.{HistoriesKeep};
+ghost use Rattle.jinja.specs.Promise.{HistoriesKeep, TypableHistoriesKeep};
 ghost use Rattle.jinja.specs.Safety.{TypeSafety};
 ghost use Rattle.jinja.specs.TypingLaws.{RowOrderHolds, JoinLawsHold, RulesMonotone, SendsByRulesHolds, LeastUnique, TypableHasLeast};
 
@@ -54,10 +54,11 @@ pub fn type_safety()
     ensures { TypeSafety }
 {}
 
-/// The promise about histories: of every program whose methods have well-typings, with the least of them, over any heap,
-/// and after every list of calls.
+/// The promise about histories, over any heap and after every list of calls: with any least well-typings of a program's
+/// methods, and with those that there are wherever each method has a well-typing.
 pub fn histories_keep()
-    ensures { HistoriesKeep }
+    ensures least { HistoriesKeep }
+    ensures typable { TypableHistoriesKeep }
 {}
 
 /// Running a + b steps is running a and then b; a run that is over stays so; only a step that answers 0 and begin change

@@ -89,7 +89,7 @@ fn join_number(tables: &Tables, a: u16, b: u16) -> u16
 }
 
 // Joins cells into cells, and says whether that changed one.
-fn join_numbers(tables: &Tables, cells: &mut [u16], others: &[u16]) -> bool
+pub(crate) fn join_numbers(tables: &Tables, cells: &mut [u16], others: &[u16]) -> bool
     requires same { length cells.old ≡ length others.now }
     requires left { Small cells.old }
     requires right { Small others.now }
@@ -109,7 +109,7 @@ fn join_numbers(tables: &Tables, cells: &mut [u16], others: &[u16]) -> bool
 }
 
 // Whether a cell is absent.
-fn any_absent(cells: &[u16]) -> bool
+pub(crate) fn any_absent(cells: &[u16]) -> bool
     ensures { result ≡ has_absent cells.now }
 {
     for k in 0..cells.len() {

@@ -22,6 +22,7 @@ mod places;
 mod refuse;
 mod registers;
 pub mod row;
+mod same;
 mod send;
 mod start;
 mod step;
