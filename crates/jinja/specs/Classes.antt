@@ -1,5 +1,5 @@
 -- The class table: numbers, superclasses, and the order of classes. Assumes nothing.
-use Rattle.std.specs.Prelude.{ℕ, zero, suc, ◌<◌, Bool, true, false, cond, ◌&&◌, List, [], ◌∷◌, length, Some, None, Option, ◌==◌, nat_lt}
+use Rattle.std.specs.Prelude.{ℕ, zero, suc, ◌<◌, Bool, true, cond, ◌&&◌, List, [], ◌∷◌, length, Some, None, Option, ◌==◌, nat_lt}
 use Rattle.std.specs.List.{slice_get}
 use Rattle.jinja.specs.Program.{ClassDecl, Program}
 

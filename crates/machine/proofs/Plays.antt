@@ -7,7 +7,6 @@ use Rattle.jinja.specs.State.{State}
 use Rattle.jinja.specs.Calls.{Call as Asked, perform}
 use Rattle.jinja.specs.History.{after, replies}
 use Rattle.machine.specs.declared.call.Call.{Call}
-use Rattle.machine.specs.declared.call.Call.TheVariants.{Step}
 use Rattle.machine.specs.Asked.{asked, all_asked}
 
 module _ (P : Program) where

@@ -1,5 +1,5 @@
 -- A history of calls that was performed, and the promise about it.
-use Rattle.std.proofs.Common.{◌≡◌, ℕ, List, length, take, drop, sym, subst}
+use Rattle.std.proofs.Common.{◌≡◌, ℕ, List, length, take, drop}
 use mathlib.Core.Logic.{∥∥₁_map}
 use Rattle.heap.specs.Meaning.{Meaning}
 use Rattle.format.proofs.WellFormed.{kept_is_well_formed}

@@ -3,7 +3,7 @@ use Rattle.std.proofs.Common.{◌≡◌, ℕ, zero, suc, ◌+◌, ◌*◌, ◌/�
 use Rattle.std.proofs.lemmas.Nat.{div_below}
 use Rattle.std.proofs.lemmas.List.{append_assoc}
 use Rattle.std.proofs.lemmas.Bool.{lt-ltb, le-ltb}
-use Rattle.number.specs.Numbers.{bytes, bytes_by}
+use Rattle.number.specs.Numbers.{bytes_by}
 
 -- a first group with more behind it
 first_group : (k n : ℕ) → 128 ≤ n → n < 16 * 128 ^ k → (j : ℕ) × (bytes_by k n ≡ (n % 128 + 128) ∷ bytes_by j (n / 128)) × (n / 128 < 16 * 128 ^ j)

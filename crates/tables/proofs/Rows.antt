@@ -12,7 +12,7 @@ use Rattle.jinja.specs.Lookups as jinja
 use Rattle.tables.specs.declared.records.ClassRec.{ClassRec}
 use Rattle.tables.specs.declared.tables.Tables.{Tables}
 use Rattle.tables.specs.Spans.{part, FieldsWithin}
-use Rattle.tables.specs.Views.{fields_of, program_of}
+use Rattle.tables.specs.Views.{program_of}
 use Rattle.tables.specs.Records.{record_at}
 use Rattle.tables.proofs.Spans.{part_in}
 use Rattle.tables.proofs.Programs.{fields_at}

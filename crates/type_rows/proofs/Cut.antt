@@ -20,7 +20,7 @@ use Rattle.jinja.proofs.Bridge.{passed, transfer_sound}
 use Rattle.jinja.proofs.Sends.{sends_by_rules}
 use Rattle.walk.specs.Limits.{most_nodes}
 use Rattle.walk.specs.Lattice.{Le}
-use Rattle.walk.specs.Flow.{nothing, sent}
+use Rattle.walk.specs.Flow.{nothing}
 use Rattle.walk.specs.Solution.{Lands, nothing_lands, row_lands, Solution}
 use Rattle.type_rows.specs.Merging.{Merge, merged, merge, row_height, InUse, row_in_use}
 use Rattle.type_rows.specs.MergeOrder.{le_merged, le_to_join, above_in_use}

@@ -1,5 +1,5 @@
 -- The parts of a row of numbers: its first number, its stack cells and its registers. Assumes nothing.
-use Rattle.std.proofs.Common.{◌≡◌, ℕ, zero, suc, ◌-◌, List, [], ◌∷◌, ◌++◌, length, take, drop, set, ap, ◌∙◌, arith}
+use Rattle.std.proofs.Common.{◌≡◌, ℕ, zero, suc, List, [], ◌∷◌, ◌++◌, length, take, drop, set, ap, ◌∙◌, arith}
 use borrow.Rule.Slice.PartMut.{put_mid}
 use Rattle.type_rows.specs.Numbers.{Small}
 use Rattle.std.proofs.lemmas.List.{append-nil, take_at, drop_at, drop_all, length-drop}

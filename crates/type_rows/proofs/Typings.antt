@@ -5,7 +5,7 @@ use Rattle.jinja.specs.Order.{LeRow}
 use Rattle.jinja.proofs.Order.{row_refl, row_trans}
 use Rattle.type_rows.specs.Merging.{Merge, merged, clash}
 use Rattle.type_rows.specs.MergeOrder.{LeMerge, le_merged, le_from_join}
-use Rattle.type_rows.specs.Typings.{row_of, rows_of, TypedBySolvingHolds}
+use Rattle.type_rows.specs.Typings.{row_of, TypedBySolvingHolds}
 use Rattle.type_rows.proofs.Solved.{solved_typing}
 use Rattle.type_rows.proofs.Cut.{cut, cut_below, typing_solves}
 

@@ -1,5 +1,5 @@
 -- Binary digits of words: one digit set, one cleared, and the lowest that is set. Assumes nothing.
-use Rattle.std.proofs.Common.{◌≡◌, ℕ, zero, suc, ◌+◌, ◌-◌, ◌/◌, ◌%◌, ◌^◌, ◌<◌, ◌≤◌, max, ◌⊎◌, sym, refl, ap, ◌∙◌, subst, ap₂, ⊎_elim, one-mul, pow-suc, div-one, add-one, one-add, arith}
+use Rattle.std.proofs.Common.{◌≡◌, ℕ, zero, suc, ◌+◌, ◌-◌, ◌/◌, ◌%◌, ◌^◌, ◌<◌, ◌≤◌, max, sym, refl, ap, ◌∙◌, subst, ap₂, ⊎_elim, one-mul, pow-suc, div-one, add-one, one-add, arith}
 use native.Mathlib.Nat.{div-eq_of_lt}
 use lib.Bits.{bit_or, bit_xor, differ, or_shr, or_step, xor_shr, xor_step}
 use lib.Count.{count_trailing_zeros, under}

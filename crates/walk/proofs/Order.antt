@@ -1,7 +1,7 @@
 -- Joins are least upper bounds, and what that says of rows that are sent. Assumes nothing.
 use Rattle.std.proofs.Common.{ℕ, ◌<◌, sym, ap, ◌∙◌}
 use Rattle.walk.specs.Lattice.{Le}
-use Rattle.walk.specs.Flow.{Sent, nothing, sent, Below, row_below, Lawful, nothing_lawful, row_lawful}
+use Rattle.walk.specs.Flow.{Sent, sent, Below, row_below, Lawful, nothing_lawful, row_lawful}
 use Rattle.walk.specs.Framework.{Framework, nodes}
 use Rattle.walk.specs.Solution.{Table, Lands, nothing_lands, row_lands}
 

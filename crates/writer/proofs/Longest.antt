@@ -1,4 +1,4 @@
--- No file of a program that keeps the rules is longer than `longest-file`.
+-- No file of a program that keeps the rules is longer than `longest_file`.
 use Rattle.std.proofs.Common.{◌≡◌, ℕ, ◌+◌, ◌*◌, ◌≤◌, Bool, true, ◌&&◌, leb, List, [], ◌∷◌, ◌++◌, length, sym, refl, ◌∙◌, subst, mul-zero, mul-suc, arith}
 use Rattle.std.specs.List.{flat_map}
 use Rattle.std.proofs.lemmas.List.{length-append, append_assoc, append-nil}

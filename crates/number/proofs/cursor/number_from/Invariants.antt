@@ -1,5 +1,5 @@
 -- What is still to be read gives the answer.
-use Rattle.std.proofs.Common.{◌≡◌, ◌-◌, ◌^◌, ◌<◌, ◌≤◌, drop}
+use Rattle.std.proofs.Common.{◌≡◌, ◌^◌, ◌<◌, ◌≤◌, drop}
 use Rattle.number.specs.Numbers.{groups, number_at}
 use Rattle.number.proofs.cursor.number_from.Given as goal
 

@@ -1,7 +1,7 @@
-use Rattle.std.proofs.Common.{◌≡◌, sym, refl, ◌∙◌, subst}
+use Rattle.std.proofs.Common.{◌≡◌, refl, ◌∙◌, subst}
 use Rattle.jinja.specs.Program.{Program}
 use Rattle.jinja.specs.declared.answer.Answer.TheVariants.{Stepped}
-use Rattle.jinja.specs.State.{State, step}
+use Rattle.jinja.specs.State.{step}
 use Rattle.machine.specs.States.{program, state}
 use Rattle.machine.proofs.Runs.{run_none, run_more, run_stop, run_all}
 use Rattle.machine.proofs.machine.Machine.go.Goals as goal

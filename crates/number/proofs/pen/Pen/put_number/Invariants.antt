@@ -1,5 +1,5 @@
 -- Some bytes are put, and those of the rest are left.
-use Rattle.std.proofs.Common.{◌≡◌, ℕ, ◌+◌, ◌*◌, ◌^◌, ◌<◌, List, ◌++◌}
+use Rattle.std.proofs.Common.{◌≡◌, ℕ, ◌*◌, ◌^◌, ◌<◌, List, ◌++◌}
 use Rattle.number.specs.Numbers.{bytes, bytes_by}
 use Rattle.number.specs.Puts.{Put, pen_of}
 use Rattle.number.proofs.pen.Pen.put_number.Given as goal
