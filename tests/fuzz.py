@@ -268,9 +268,9 @@ def options():
     parser.add_argument('--files', type=int, default=2000)
     parser.add_argument('--histories', type=int, default=1000)
     parser.add_argument('--seed', default='1')
-    parser.add_argument('--ours', default=f'{ROOT}/target/bin/loadrules shell')
+    parser.add_argument('--ours', default=f'{ROOT}/crates/loadrules/out/loadrules shell')
     parser.add_argument('--plain', default=f'{ROOT}/bench/plain/target/release/plain shell')
-    parser.add_argument('--out', default=f'{ROOT}/target/fuzz-difference.txt')
+    parser.add_argument('--out', default=f'{ROOT}/tests/out/fuzz-difference.txt')
     return parser.parse_args()
 
 
