@@ -19,7 +19,6 @@ mod table;
 mod values;
 mod words;
 
-use anyhow::anyhow;
 use bench::bench;
 use check::check_file;
 use list::list_file;
@@ -27,13 +26,14 @@ use options::Words;
 use run::run_file;
 use shell::shell;
 use std::env;
+use std::process::ExitCode;
 use table::table_file;
 
-fn main(rt: HostRuntime) -> anyhow::Result<()> {
+fn main(rt: HostRuntime) -> anyhow::Result<ExitCode> {
     if command(&rt)? {
-        Ok(())
+        Ok(ExitCode::SUCCESS)
     } else {
-        Err(anyhow!("refused"))
+        Ok(ExitCode::FAILURE)
     }
 }
 
