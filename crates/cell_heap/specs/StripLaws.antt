@@ -1,7 +1,7 @@
 -- How many objects a strip has, and how long their rows are.
 use Rattle.std.specs.Prelude.{◌≡◌, ℕ, zero, suc, ◌+◌, ◌<◌, ◌≤◌, length, slice_index_or}
 use Rattle.std.proofs.Common.{ap, ◌∙◌, arith}
-use Rattle.std.specs.List.{AllByRecursion as All}
+use Rattle.std.specs.List.{AllByRecursion}
 use Rattle.std.proofs.lemmas.List.FromFn.{length-map-range_with_len, get_or-map-range_with_len}
 use Rattle.std.proofs.ByRecursion.{All-from_get_or}
 use Rattle.heap.specs.Meaning.{row_limit}
@@ -18,7 +18,7 @@ module _ {X : Type 0} (k : Reading X) (f : ℕ → X) where
   pub object_there : (n a : ℕ) → a < n → slice_index_or (objects_of k f n) a no_object ≡ object_from k f (start k f a)
   object_there n a l = get_or-map-range_with_len (λ b. object_from k f (start k f b)) 0 n a a no_object l (omega arith)
 
-  pub rows_short : (n : ℕ) → All (λ o. length o.row ≤ row_limit) (objects_of k f n)
+  pub rows_short : (n : ℕ) → AllByRecursion (λ o. length o.row ≤ row_limit) (objects_of k f n)
   rows_short n =
       All-from_get_or (λ o. length o.row ≤ row_limit) (objects_of k f n) no_object
       (λ a l.

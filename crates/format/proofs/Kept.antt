@@ -1,6 +1,6 @@
 -- The rules that handlers, fields, methods and classes keep, each under a name.
 use Rattle.std.proofs.Common.{◌≡◌, ℕ, zero, suc, ◌+◌, ◌≤◌, Bool, true, ◌&&◌, leb, List, [], ◌∷◌, ◌++◌, length, get_or, take, Some, sym, refl, ap, ◌∙◌, subst, arith}
-use Rattle.std.specs.List.{slice_get, AllByRecursion as All}
+use Rattle.std.specs.List.{slice_get, AllByRecursion}
 use Rattle.std.proofs.lemmas.List.{append_assoc, append-nil, length_push}
 use Rattle.std.proofs.lemmas.Bool.{leb-true, le-leb, and_parts, and_from}
 use Rattle.jinja.specs.declared.program.Field.{Field}
@@ -18,7 +18,7 @@ test_at [] h i = refl
 test_at (b ∷ bs) h zero = (and_parts b (all_of bs) h).0
 test_at (b ∷ bs) h (suc i) = test_at bs (and_parts b (all_of bs) h).1 i
 
-all_from : (bs : List Bool) → All (λ b. b ≡ true) bs → all_of bs ≡ true
+all_from : (bs : List Bool) → AllByRecursion (λ b. b ≡ true) bs → all_of bs ≡ true
 all_from [] h = refl
 all_from (b ∷ bs) h = and_from b (all_of bs) h.0 (all_from bs h.1)
 

@@ -1,6 +1,6 @@
 -- Worked files: the bytes of each, and what it says. Assumes nothing.
 use Rattle.std.specs.Prelude.{◌≡◌, ℕ, true, List, [], ◌∷◌, ◌++◌, take, drop, pos, Ok, Err, Result}
-use Rattle.std.specs.List.{AllByRecursion as All}
+use Rattle.std.specs.List.{AllByRecursion}
 use Rattle.number.specs.declared.fault.NumberFault.TheVariants.{Cut, Padded, Oversize}
 use Rattle.jinja.specs.declared.ty.Ty.TheVariants.{Integer as Integers}
 use Rattle.jinja.specs.declared.instr.Literal.TheVariants.{Integer}
@@ -55,6 +55,6 @@ examples =
 
 -- the definitions answer each file, and the first is the encoding of a program that keeps the rules
 pub record ExamplesStand : Type 0 where
-  pub parsed : All (λ x. parse x.file ≡ x.says) examples
+  pub parsed : AllByRecursion (λ x. parse x.file ≡ x.says) examples
   pub encoded : encode sum_program ≡ sum_file
   pub kept : keeps sum_program ≡ true

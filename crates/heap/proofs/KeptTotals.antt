@@ -1,6 +1,6 @@
 -- Calls keep the lines, and each line's use within its total.
 use Rattle.std.proofs.Common.{◌≡◌, ℕ, ◌+◌, ◌<◌, ◌≤◌, true, ltb, leb, List, [], ◌∷◌, ◌++◌, length, sym, refl, ap, ◌∙◌, subst, arith, length-set}
-use Rattle.std.specs.List.{AllByRecursion as All}
+use Rattle.std.specs.List.{AllByRecursion}
 use Rattle.std.proofs.ByRecursion.{All-weaker}
 use Rattle.std.proofs.lemmas.List.Sums.{sum_by-cons, sum_by_push, sum_by-set}
 use Rattle.std.proofs.lemmas.Bool.{and_parts, leb-true, ltb-true, cond_both}
@@ -15,7 +15,7 @@ pub within_vacant : (ls : List ChargeLine) → WithinTotals (vacant ls)
 within_vacant [] = tt
 within_vacant (l ∷ ls) = (omega arith, within_vacant ls)
 
-within_room : (os : List Object) (o : Object) (ls : List ChargeLine) → has_room ls os (length o.row) ≡ true → All (λ l. used l (os ++ o ∷ []) ≤ l.total) ls
+within_room : (os : List Object) (o : Object) (ls : List ChargeLine) → has_room ls os (length o.row) ≡ true → AllByRecursion (λ l. used l (os ++ o ∷ []) ≤ l.total) ls
 within_room os o [] e = tt
 within_room os o (l ∷ ls) e =
     let n = length o.row in
@@ -72,7 +72,7 @@ count_used l f (o ∷ os) =
     let r = count_used l f os in
     omega arith
 
-pub few_within : {ls : List ChargeLine} → Charged ls → (os : List Object) → All SmallLine ls → All (λ l. used l os ≤ l.total) ls → length os ≤ word_limit
+pub few_within : {ls : List ChargeLine} → Charged ls → (os : List Object) → AllByRecursion SmallLine ls → AllByRecursion (λ l. used l os ≤ l.total) ls → length os ≤ word_limit
 few_within (here {l = l} f) os s w = let u = count_used l f os in let t = s.0.total in omega arith
 few_within (below c) os s w = few_within c os s.1 w.1
 

@@ -1,6 +1,6 @@
 -- What holds of every state of every heap.
 use Rattle.std.specs.Prelude.{ℕ, ◌+◌, ◌*◌, ◌<◌, ◌≤◌, List, ◌∷◌, length}
-use Rattle.std.specs.List.{AllByRecursion as All}
+use Rattle.std.specs.List.{AllByRecursion}
 use Rattle.heap.specs.declared.charge.ChargeLine.{ChargeLine}
 use Rattle.heap.specs.Meaning.{Meaning, row_limit}
 pub use Rattle.heap.specs.Limits.{word_limit}
@@ -16,13 +16,13 @@ pub data Charged : List ChargeLine → Type 0 where
   below : {l : ChargeLine} {ls : List ChargeLine} → Charged ls → Charged (l ∷ ls)
 
 pub record LawfulLines (ls : List ChargeLine) : Type 0 where
-  pub small : All SmallLine ls
+  pub small : AllByRecursion SmallLine ls
   pub charged : Charged ls
 
 -- what every state of every heap has
 pub record Lawful (m : Meaning) : Type 0 where
   pub few : length m.objects ≤ word_limit
-  pub short : All (λ o. length o.row ≤ row_limit) m.objects
+  pub short : AllByRecursion (λ o. length o.row ≤ row_limit) m.objects
   pub lines : LawfulLines m.lines
 
 -- what one object costs at most

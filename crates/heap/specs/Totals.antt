@@ -1,13 +1,13 @@
 -- What any calls keep from an emptied heap on: no line's use passes its total.
 use Rattle.std.specs.Prelude.{◌≡◌, ℕ, ◌≤◌, List, [], ◌∷◌, length}
-use Rattle.std.specs.List.{AllByRecursion as All}
+use Rattle.std.specs.List.{AllByRecursion}
 use Rattle.heap.specs.declared.value.Value.{Value}
 use Rattle.heap.specs.Meaning.{Meaning, used}
 use Rattle.heap.specs.Calls.{after_add, after_empty, after_write}
 use Rattle.heap.specs.Lawful.{word_limit}
 
 abbrev pub WithinTotals : Meaning → Type 0
-WithinTotals m = All (λ l. used l m.objects ≤ l.total) m.lines
+WithinTotals m = AllByRecursion (λ l. used l m.objects ≤ l.total) m.lines
 
 -- a call that changes a heap, and what a list of calls leaves, the first one first
 pub data Call : Type 0 where

@@ -1,6 +1,6 @@
 -- The types of fields, parameters and results exist, and overriding methods take and give what inherited ones do. Assumes nothing.
 use Rattle.std.proofs.Common.{◌≡◌, ℕ, zero, suc, true, List, [], ◌∷◌, Some, refl, ap, subst}
-use Rattle.std.specs.List.{slice_get, AllByRecursion as All}
+use Rattle.std.specs.List.{slice_get, AllByRecursion}
 use Rattle.std.proofs.ByRecursion.{All-append}
 use Rattle.jinja.specs.declared.ty.Ty.{Ty}
 use Rattle.jinja.specs.declared.program.Field.{Field}
@@ -14,7 +14,7 @@ use Rattle.jinja.proofs.Options.{some_inj, maybe_found}
 use Rattle.jinja.proofs.Inheritance.{overrides_params, overrides_result}
 use Rattle.jinja.proofs.Order.{le_refl}
 
-pub all_from_nth : {A : Type 0} (Q : A → Type 0) (xs : List A) → ((i : ℕ) (a : A) → slice_get xs i ≡ Some a → Q a) → All Q xs
+pub all_from_nth : {A : Type 0} (Q : A → Type 0) (xs : List A) → ((i : ℕ) (a : A) → slice_get xs i ≡ Some a → Q a) → AllByRecursion Q xs
 all_from_nth Q [] f = tt
 all_from_nth Q (x ∷ xs) f = (f 0 x refl, all_from_nth Q xs (λ i a e. f (suc i) a e))
 
@@ -26,14 +26,14 @@ module _ {P : Program} (w : WellFormed P) where
       let b = maybe_found (slice_get (own_fields P c) a.0) _ a.2 in
       subst (TypeExists P) (ap (λ (y : FieldPlace). y.ty) (some_inj b.2)) (w.field_types c a.0 b.1)
 
-  own_fields_exist : (c : ℕ) → All (λ (f : Field). TypeExists P f.ty) (own_fields P c)
+  own_fields_exist : (c : ℕ) → AllByRecursion (λ (f : Field). TypeExists P f.ty) (own_fields P c)
   own_fields_exist c = all_from_nth _ (own_fields P c) (λ i f e. w.field_types c i e)
 
-  within_exist : (k c : ℕ) → All (λ (f : Field). TypeExists P f.ty) (fields_within P k c)
+  within_exist : (k c : ℕ) → AllByRecursion (λ (f : Field). TypeExists P f.ty) (fields_within P k c)
   within_exist zero c = own_fields_exist c
   within_exist (suc k) c = All-append _ (fields_within P k (superclass_of P c)) (own_fields P c) (within_exist k (superclass_of P c)) (own_fields_exist c)
 
-  pub fields_exist : (c : ℕ) → All (λ (f : Field). TypeExists P f.ty) (fields_of P c)
+  pub fields_exist : (c : ℕ) → AllByRecursion (λ (f : Field). TypeExists P f.ty) (fields_of P c)
   unfolding fields_of
   fields_exist c = within_exist c c
 

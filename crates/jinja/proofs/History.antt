@@ -1,7 +1,7 @@
 -- The promise about histories: each call keeps it. Assumes nothing.
 use Rattle.std.proofs.Common.{◌≡◌, ℕ, zero, suc, Bool, true, false, cond, eqb, List, [], ◌∷◌, ◌++◌, length, Some, None, Ok, Err, Option, Result, refl, subst, arith}
 use mathlib.Core.Path.{subst⁻¹}
-use Rattle.std.specs.List.{slice_get, AllByRecursion as All}
+use Rattle.std.specs.List.{slice_get, AllByRecursion}
 use Rattle.std.proofs.ByRecursion.{All-append}
 use Rattle.std.proofs.lemmas.Bool.{cond_both}
 use Rattle.heap.specs.declared.value.Value.{Value}
@@ -163,7 +163,7 @@ module _ {P : Program} (w : WellFormed P) (ls : List ChargeLine) where
 abbrev Sound : Answer → Type 0
 Sound x = x ≡ answer.Unsound → ⊥
 
-run_on_sound : (x : Answer) (xs : List Answer) → Sound x → All Sound xs → All Sound (x ∷ if_stepped x xs)
+run_on_sound : (x : Answer) (xs : List Answer) → Sound x → AllByRecursion Sound xs → AllByRecursion Sound (x ∷ if_stepped x xs)
 run_on_sound answer.Stepped xs k r = (k, r)
 run_on_sound answer.Finished xs k r = (k, tt)
 run_on_sound answer.Uncaught xs k r = (k, tt)
@@ -179,7 +179,7 @@ not_finished e = let z : ◌≡◌ {A = ℕ} 0 1 = cc in omega arith
 not_uncaught : Uncaught ≡ Idle → ⊥
 not_uncaught e = let z : ◌≡◌ {A = ℕ} 0 1 = cc in omega arith
 
-awake_all : {A : Type 0} (Q : A → Type 0) (p : Phase) (xs : List A) → ((p ≡ Idle → ⊥) → All Q xs) → All Q (if_awake p xs)
+awake_all : {A : Type 0} (Q : A → Type 0) (p : Phase) (xs : List A) → ((p ≡ Idle → ⊥) → AllByRecursion Q xs) → AllByRecursion Q (if_awake p xs)
 awake_all Q Idle xs f = tt
 awake_all Q Running xs f = f not_running
 awake_all Q Finished xs f = f not_finished
@@ -192,12 +192,12 @@ awake_fits Finished s o fits f = f not_finished
 awake_fits Uncaught s o fits f = f not_uncaught
 
 module _ {P : Program} {Φ : ℕ → Table} (w : WellFormed P) (typed : WellTypings P Φ) where
-  run_sound : {b : ℕ} (n : ℕ) (s : State) → StateFits P Φ b s → (s.phase ≡ Idle → ⊥) → All Sound (run_answers P n s)
+  run_sound : {b : ℕ} (n : ℕ) (s : State) → StateFits P Φ b s → (s.phase ≡ Idle → ⊥) → AllByRecursion Sound (run_answers P n s)
   run_sound zero s fits awake = tt
   run_sound (suc n) s fits awake =
       let k = step_kept w typed s fits awake in run_on_sound (step P s).0 (run_answers P n (step P s).1) k.sound (run_sound n (step P s).1 k.fits k.awake)
 
-  call_sound : {b : ℕ} (c : Call) (s : State) → StateFits P Φ b s → All Sound (call_answers P c s)
+  call_sound : {b : ℕ} (c : Call) (s : State) → StateFits P Φ b s → AllByRecursion Sound (call_answers P c s)
   call_sound (begins c m args) s fits = tt
   call_sound steps s fits = awake_all Sound s.phase _ (λ awake. ((step_kept w typed s fits awake).sound, tt))
   call_sound (runs n) s fits = awake_all Sound s.phase _ (λ awake. run_sound n s fits awake)
@@ -213,7 +213,7 @@ module _ {P : Program} {Φ : ℕ → Table} (w : WellFormed P) (typed : WellTypi
   history_fits [] s {b} fits = (b, fits)
   history_fits (c ∷ calls) s fits = let r = call_fits c s fits in history_fits calls (perform P c s).1 r.1
 
-  history_sound : (calls : List Call) (s : State) {b : ℕ} → StateFits P Φ b s → All Sound (step_answers P calls s)
+  history_sound : (calls : List Call) (s : State) {b : ℕ} → StateFits P Φ b s → AllByRecursion Sound (step_answers P calls s)
   history_sound [] s fits = tt
   history_sound (c ∷ calls) s fits = let r = call_fits c s fits in All-append Sound (call_answers P c s) (step_answers P calls (perform P c s).1) (call_sound c s fits) (history_sound calls (perform P c s).1 r.1)
 

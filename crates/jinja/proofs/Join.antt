@@ -1,6 +1,6 @@
 -- The join is the least upper bound, and is there wherever there is an upper bound. Assumes nothing.
 use Rattle.std.proofs.Common.{◌≡◌, ℕ, zero, suc, ◌+◌, ◌<◌, ◌≤◌, Bool, true, false, cond, eqb, ltb, List, [], ◌∷◌, Some, None, Option, sym, refl, ◌∙◌, subst, ⊎_elim, arith}
-use Rattle.std.specs.List.{AllByRecursion as All}
+use Rattle.std.specs.List.{AllByRecursion}
 use Rattle.std.proofs.lemmas.Bool.{eqb-true, eqb-false, ltb-true, ltb-false, cases_lt}
 use Rattle.jinja.specs.declared.ty.Ty.{Ty}
 use Rattle.jinja.specs.declared.ty.Ty.TheVariants.{Void, Boolean, Integer, NullType, Class}
@@ -109,7 +109,7 @@ module _ {P : Program} (w : WellFormed P) where
     pub right : LeAll P us vs
     pub least : (xs : List Ty) → LeAll P ts xs → LeAll P us xs → LeAll P vs xs
 
-  stack_lub : (ts us : List Ty) {vs : List Ty} → All (TypeExists P) ts → All (TypeExists P) us → join_stack P ts us ≡ Some vs → LubStack ts us vs
+  stack_lub : (ts us : List Ty) {vs : List Ty} → AllByRecursion (TypeExists P) ts → AllByRecursion (TypeExists P) us → join_stack P ts us ≡ Some vs → LubStack ts us vs
   stack_lub [] [] x y e = subst (LubStack [] []) (some_inj e) (record { left = nil; right = nil; least = λ xs l r. l })
   stack_lub [] (u ∷ us) x y e = absurd (conflict e)
   stack_lub (t ∷ ts) [] x y e = absurd (conflict e)
@@ -154,7 +154,7 @@ module _ {P : Program} (w : WellFormed P) where
     pub right : LeCells P ds es
     pub least : (xs : List Cell) → LeCells P cs xs → LeCells P ds xs → LeCells P es xs
 
-  cells_lub : (cs ds : List Cell) {es : List Cell} → All (CellExists P) cs → All (CellExists P) ds → join_cells P cs ds ≡ Some es → LubCells cs ds es
+  cells_lub : (cs ds : List Cell) {es : List Cell} → AllByRecursion (CellExists P) cs → AllByRecursion (CellExists P) ds → join_cells P cs ds ≡ Some es → LubCells cs ds es
   cells_lub [] [] x y e = subst (LubCells [] []) (some_inj e) (record { left = nil; right = nil; least = λ xs l r. l })
   cells_lub [] (d ∷ ds) x y e = absurd (conflict e)
   cells_lub (c ∷ cs) [] x y e = absurd (conflict e)

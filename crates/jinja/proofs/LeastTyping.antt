@@ -1,6 +1,6 @@
 -- A method that has a well-typing has a least one: from the first row, rows rise until every successor takes what it gets. Assumes nothing.
 use Rattle.std.proofs.Common.{◌≡◌, ℕ, zero, suc, ◌<◌, ◌≤◌, Bool, true, false, cond, eqb, ◌⊎◌, List, [], ◌∷◌, length, Some, None, Option, sym, refl, ◌∙◌, subst, inl, inr, ⊎_elim, arith}
-use Rattle.std.specs.List.{slice_get, AllByRecursion as All}
+use Rattle.std.specs.List.{slice_get, AllByRecursion}
 use Rattle.std.proofs.lemmas.Bool.{cases_eq, eq-eqb, eqb-true}
 use Rattle.jinja.specs.declared.ty.Ty.{Ty}
 use Rattle.jinja.specs.declared.instr.Instr.{Instr}
@@ -94,7 +94,7 @@ module _ {P : Program} (w : WellFormed P) {M : Owned} (some : 0 < length M.metho
           (λ (l : row_left P M r < row_left P M (T p)). inr (raise r lub l))
           (row_falls w (above_allowed fine lub.right) lub.left)
 
-    edges_land : (es : List Edge) → All (CarriesAllowed P M) es → ((other : Table) → WellTyping P M other → FlowAll P M other es) → FlowAll P M T es ⊎ Risen P M T
+    edges_land : (es : List Edge) → AllByRecursion (CarriesAllowed P M) es → ((other : Table) → WellTyping P M other → FlowAll P M other es) → FlowAll P M T es ⊎ Risen P M T
     edges_land [] fine flows = inl no_more
     edges_land (edge p st lt ∷ es) fine flows =
         let inside = (flows_first w (flows given typing)).inside in

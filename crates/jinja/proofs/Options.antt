@@ -1,6 +1,6 @@
 -- Look-ups: what was found, and lists by position. Assumes nothing.
 use Rattle.std.proofs.Common.{◌≡◌, ℕ, zero, suc, ◌+◌, ◌<◌, true, false, List, [], ◌∷◌, ◌++◌, map, length, Some, None, Option, refl, ap, subst, suc-add, zero-add, arith}
-use Rattle.std.specs.List.{slice_get, AllByRecursion as All}
+use Rattle.std.specs.List.{slice_get, AllByRecursion}
 use Rattle.jinja.specs.Classes.{maybe}
 
 pub conflict : {A : Type 0} {a : A} → None ≡ Some a → ⊥
@@ -26,7 +26,7 @@ nth_below [] i e = absurd (conflict e)
 nth_below (x ∷ xs) zero e = omega arith
 nth_below (x ∷ xs) (suc i) e = let l = nth_below xs i e in omega arith
 
-pub all_nth : {A : Type 0} (Q : A → Type 0) (xs : List A) (i : ℕ) {a : A} → All Q xs → slice_get xs i ≡ Some a → Q a
+pub all_nth : {A : Type 0} (Q : A → Type 0) (xs : List A) (i : ℕ) {a : A} → AllByRecursion Q xs → slice_get xs i ≡ Some a → Q a
 all_nth Q [] i q e = absurd (conflict e)
 all_nth Q (x ∷ xs) zero q e = subst Q (some_inj e) q.0
 all_nth Q (x ∷ xs) (suc i) q e = all_nth Q xs i q.1 e

@@ -1,6 +1,6 @@
 -- Types, registers and rows are partially ordered. Assumes nothing.
 use Rattle.std.proofs.Common.{◌≡◌, List, refl, ap}
-use Rattle.std.specs.List.{AllByRecursion as All}
+use Rattle.std.specs.List.{AllByRecursion}
 use Rattle.std.proofs.lemmas.Bool.{ltb-true}
 use Rattle.jinja.specs.declared.ty.Ty.{Ty}
 use Rattle.jinja.specs.declared.ty.Ty.TheVariants.{Void, Boolean, Integer, NullType, Class}
@@ -30,7 +30,7 @@ module _ {P : Program} where
   le_trans (null_class i) (subclass s) = null_class (upper_exists s)
   le_trans (subclass r) (subclass s) = subclass (below_trans r s)
 
-  pub all_refl : (ts : List Ty) → All (TypeExists P) ts → LeAll P ts ts
+  pub all_refl : (ts : List Ty) → AllByRecursion (TypeExists P) ts → LeAll P ts ts
   all_refl ts e = pairs_refl le_refl ts e
 
   pub all_trans : {ts us vs : List Ty} → LeAll P ts us → LeAll P us vs → LeAll P ts vs
@@ -44,7 +44,7 @@ module _ {P : Program} where
   cell_trans l le_unusable = le_unusable
   cell_trans (le_usable l) (le_usable k) = le_usable (le_trans l k)
 
-  pub cells_refl : (cs : List Cell) → All (CellExists P) cs → LeCells P cs cs
+  pub cells_refl : (cs : List Cell) → AllByRecursion (CellExists P) cs → LeCells P cs cs
   cells_refl cs e = pairs_refl cell_refl cs e
 
   pub cells_trans : {a b c : List Cell} → LeCells P a b → LeCells P b c → LeCells P a c

@@ -1,12 +1,12 @@
 -- Two lists related item by item: the same is done to both. Assumes nothing.
 use Rattle.std.proofs.Common.{◌≡◌, ℕ, zero, suc, ◌+◌, ◌<◌, List, [], ◌∷◌, length, drop, set, Some, refl, ap, subst, arith}
-use Rattle.std.specs.List.{slice_get, AllByRecursion as All}
+use Rattle.std.specs.List.{slice_get, AllByRecursion}
 use Rattle.jinja.specs.Order.{Pairwise, nil, cons}
 use Rattle.jinja.specs.Rule.{operands, taken}
 use Rattle.jinja.specs.Handlers.{lowest}
 use Rattle.jinja.proofs.Options.{conflict, some_inj}
 
-pub pairs_refl : {A : Type 0} {Q : A → Type 0} {R : A → A → Type 0} → ((a : A) → Q a → R a a) → (xs : List A) → All Q xs → Pairwise R xs xs
+pub pairs_refl : {A : Type 0} {Q : A → Type 0} {R : A → A → Type 0} → ((a : A) → Q a → R a a) → (xs : List A) → AllByRecursion Q xs → Pairwise R xs xs
 pairs_refl f [] q = nil
 pairs_refl f (x ∷ xs) q = cons (f x q.0) (pairs_refl f xs q.1)
 

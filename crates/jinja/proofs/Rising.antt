@@ -1,6 +1,6 @@
 -- A row that rises can then rise less often. Assumes nothing.
 use Rattle.std.proofs.Common.{◌≡◌, ℕ, zero, suc, ◌+◌, ◌*◌, ◌<◌, ◌≤◌, ◌⊎◌, List, [], ◌∷◌, length, sym, refl, ap, ◌∙◌, inl, inr, ⊎_elim, arith}
-use Rattle.std.specs.List.{AllByRecursion as All}
+use Rattle.std.specs.List.{AllByRecursion}
 use Rattle.std.proofs.lemmas.Nat.{mul-le}
 use Rattle.std.proofs.lemmas.Bool.{cases_eq, lt-ltb, ltb-true}
 use Rattle.jinja.specs.declared.ty.Ty.{Ty}
@@ -16,7 +16,7 @@ use Rattle.jinja.proofs.Climbs.{upper_exists, upper_smaller}
 use Rattle.jinja.proofs.Pairwise.{pairs_length}
 
 -- what each item of the upper list is
-upper_all : {A : Type 0} {Q : A → Type 0} {R : A → A → Type 0} {xs ys : List A} → ((a b : A) → R a b → Q b) → Pairwise R xs ys → All Q ys
+upper_all : {A : Type 0} {Q : A → Type 0} {R : A → A → Type 0} {xs ys : List A} → ((a b : A) → R a b → Q b) → Pairwise R xs ys → AllByRecursion Q ys
 upper_all f nil = tt
 upper_all f (cons r rs) = (f _ _ r, upper_all f rs)
 
@@ -61,7 +61,7 @@ module _ {A : Type 0} {R : A → A → Type 0} (f : A → ℕ) (item : (a b : A)
       (item a b r)
 
 -- a sum of items that are at most n
-sum_at_most : {A : Type 0} {Q : A → Type 0} (f : A → ℕ) (n : ℕ) → ((a : A) → Q a → f a ≤ n) → (xs : List A) → All Q xs → sum_of f xs ≤ length xs * n
+sum_at_most : {A : Type 0} {Q : A → Type 0} (f : A → ℕ) (n : ℕ) → ((a : A) → Q a → f a ≤ n) → (xs : List A) → AllByRecursion Q xs → sum_of f xs ≤ length xs * n
 sum_at_most f n h [] q = omega arith
 sum_at_most f n h (x ∷ xs) q = let a = h x q.0 in let b = sum_at_most f n h xs q.1 in omega arith
 

@@ -1,6 +1,6 @@
 -- What an instruction sends from an allowed row is an allowed row, and a method begins with one. Assumes nothing.
 use Rattle.std.proofs.Common.{◌≡◌, ℕ, zero, suc, ◌+◌, ◌-◌, ◌<◌, ◌≤◌, Bool, true, false, cond, ltb, leb, List, [], ◌∷◌, map, length, replicate, Some, refl, ◌∙◌, subst, arith, length-set}
-use Rattle.std.specs.List.{AllByRecursion as All}
+use Rattle.std.specs.List.{AllByRecursion}
 use Rattle.std.proofs.ByRecursion.{All-append, All-set, All-drop, All-map}
 use Rattle.std.proofs.lemmas.List.{length-append, length-map, length-replicate, length-drop}
 use Rattle.std.proofs.lemmas.Bool.{lt-ltb, ltb-true, leb-true}
@@ -35,19 +35,19 @@ literal_exists P (literal.Boolean b) = refl
 literal_exists P (literal.Integer z) = refl
 
 -- what is left under the operands
-left_exist : (Q : Ty → Type 0) (n : ℕ) (st acc : List Ty) {args rest : List Ty} {t : Ty} → All Q st → taken n st acc ≡ Some (operands args t rest) → All Q rest
+left_exist : (Q : Ty → Type 0) (n : ℕ) (st acc : List Ty) {args rest : List Ty} {t : Ty} → AllByRecursion Q st → taken n st acc ≡ Some (operands args t rest) → AllByRecursion Q rest
 left_exist Q zero [] acc q e = absurd (conflict e)
-left_exist Q zero (r ∷ st) acc q e = subst (All Q) (cc) q.1
+left_exist Q zero (r ∷ st) acc q e = subst (AllByRecursion Q) (cc) q.1
 left_exist Q (suc n) [] acc q e = absurd (conflict e)
 left_exist Q (suc n) (a ∷ st) acc q e = left_exist Q n st (a ∷ acc) q.1 e
 
 module _ {P : Program} {M : Owned} where
-  allowed : {st : List Ty} {lt : List Cell} → All (TypeExists P) st → All (CellExists P) lt → length lt ≡ registers M → length st ≤ M.method.height → Allowed P M (reached st lt)
+  allowed : {st : List Ty} {lt : List Cell} → AllByRecursion (TypeExists P) st → AllByRecursion (CellExists P) lt → length lt ≡ registers M → length st ≤ M.method.height → Allowed P M (reached st lt)
   allowed s l n h = reached_allowed (row s l n) h
 
 module _ {P : Program} (w : WellFormed P) {M : Owned} where
   -- the successors of an instruction get allowed rows
-  pub rule_sends_allowed : {i : Instr} {pc : ℕ} {st : List Ty} {lt : List Cell} {es : List Edge} → All (TypeExists P) st → All (CellExists P) lt → length lt ≡ registers M → length st ≤ M.method.height → Rule P M i pc st lt es → All (CarriesAllowed P M) es
+  pub rule_sends_allowed : {i : Instr} {pc : ℕ} {st : List Ty} {lt : List Cell} {es : List Edge} → AllByRecursion (TypeExists P) st → AllByRecursion (CellExists P) lt → length lt ≡ registers M → length st ≤ M.method.height → Rule P M i pc st lt es → AllByRecursion (CarriesAllowed P M) es
   rule_sends_allowed s l n h (load {n = k} {lt = lt} e room) = (allowed (all_nth (CellExists P) lt k l e, s) l n room, tt)
   rule_sends_allowed s l n h (store {n = k} {t = t} {lt = lt} i) = (allowed s.1 (All-set (CellExists P) lt k (usable t) s.0 l) (length-set lt k (usable t) ∙ n) (omega arith), tt)
   rule_sends_allowed s l n h (push {v = v} room) = (allowed (literal_exists P v, s) l n room, tt)
@@ -67,40 +67,40 @@ module _ {P : Program} (w : WellFormed P) {M : Owned} where
   rule_sends_allowed s l n h (throw r) = tt
 
   -- and so does the target of a handler
-  pub handler_sends_allowed : (x : Handler) (st : List Ty) {lt : List Cell} → All (TypeExists P) st → All (CellExists P) lt → length lt ≡ registers M → IsClass P x.class → x.depth ≤ length st → x.depth < M.method.height → Allowed P M (reached (Class x.class ∷ lowest x.depth st) lt)
+  pub handler_sends_allowed : (x : Handler) (st : List Ty) {lt : List Cell} → AllByRecursion (TypeExists P) st → AllByRecursion (CellExists P) lt → length lt ≡ registers M → IsClass P x.class → x.depth ≤ length st → x.depth < M.method.height → Allowed P M (reached (Class x.class ∷ lowest x.depth st) lt)
   handler_sends_allowed x st s l n exists deep room =
       let d = length-drop (length st - x.depth) st in allowed (lt-ltb _ _ exists, All-drop (TypeExists P) (length st - x.depth) st s) l n (omega arith)
 
 module _ {P : Program} (w : WellFormed P) (M : Owned) (i : Instr) (pc : ℕ) (st : List Ty) (lt : List Cell) where
-  handlers_send_allowed : (xs : List Handler) {es : List Edge} → All (TypeExists P) st → All (CellExists P) lt → length lt ≡ registers M → send_handlers P M xs i pc st lt ≡ Some es → All (CarriesAllowed P M) es
-  handlers_send_allowed [] s l n e = subst (All (CarriesAllowed P M)) (some_inj e) tt
+  handlers_send_allowed : (xs : List Handler) {es : List Edge} → AllByRecursion (TypeExists P) st → AllByRecursion (CellExists P) lt → length lt ≡ registers M → send_handlers P M xs i pc st lt ≡ Some es → AllByRecursion (CarriesAllowed P M) es
+  handlers_send_allowed [] s l n e = subst (AllByRecursion (CarriesAllowed P M)) (some_inj e) tt
   handlers_send_allowed (x ∷ xs) {es} s l n e = go (is_relevant P i pc x) (λ hs e. handlers_send_allowed xs s l n e) e
     where
-      go : (b : Bool) → ((hs : List Edge) → send_handlers P M xs i pc st lt ≡ Some hs → All (CarriesAllowed P M) hs) → cond b (is_class P x.class >> (leb x.depth (length st) >> (ltb x.depth M.method.height >> (send_handlers P M xs i pc st lt >>= λ es. Some (edge x.target (Class x.class ∷ lowest x.depth st) lt ∷ es))))) (send_handlers P M xs i pc st lt) ≡ Some es → All (CarriesAllowed P M) es
+      go : (b : Bool) → ((hs : List Edge) → send_handlers P M xs i pc st lt ≡ Some hs → AllByRecursion (CarriesAllowed P M) hs) → cond b (is_class P x.class >> (leb x.depth (length st) >> (ltb x.depth M.method.height >> (send_handlers P M xs i pc st lt >>= λ es. Some (edge x.target (Class x.class ∷ lowest x.depth st) lt ∷ es))))) (send_handlers P M xs i pc st lt) ≡ Some es → AllByRecursion (CarriesAllowed P M) es
       go true others e =
           let b = tested (is_class P x.class) _ e in
           let d = tested (leb x.depth (length st)) _ b.1 in
           let f = tested (ltb x.depth M.method.height) _ d.1 in
           let g = passed (send_handlers P M xs i pc st lt) _ f.1 in
-          subst (All (CarriesAllowed P M)) (some_inj g.2) (handler_sends_allowed w x st s l n (ltb-true _ _ b.0) (leb-true _ _ d.0) (ltb-true _ _ f.0), others g.0 g.1)
+          subst (AllByRecursion (CarriesAllowed P M)) (some_inj g.2) (handler_sends_allowed w x st s l n (ltb-true _ _ b.0) (leb-true _ _ d.0) (ltb-true _ _ f.0), others g.0 g.1)
       go false others e = others es e
 
   -- all that is sent from an allowed row
-  pub sent_allowed : {es : List Edge} → Allowed P M (reached st lt) → sends P M i pc (reached st lt) ≡ Some es → All (CarriesAllowed P M) es
+  pub sent_allowed : {es : List Edge} → Allowed P M (reached st lt) → sends P M i pc (reached st lt) ≡ Some es → AllByRecursion (CarriesAllowed P M) es
   sent_allowed (reached_allowed (row s l n) h) e =
       let a = passed (transfer P M i pc st lt) _ e in
       let b = passed (send_handlers P M M.method.handlers i pc st lt) _ a.2 in
-      subst (All (CarriesAllowed P M)) (some_inj b.2) (All-append (CarriesAllowed P M) a.0 b.0 (rule_sends_allowed w s l n h (transfer_sound w i pc st lt a.1)) (handlers_send_allowed M.method.handlers s l n b.1))
+      subst (AllByRecursion (CarriesAllowed P M)) (some_inj b.2) (All-append (CarriesAllowed P M) a.0 b.0 (rule_sends_allowed w s l n h (transfer_sound w i pc st lt a.1)) (handlers_send_allowed M.method.handlers s l n b.1))
 
 -- a method's owner is a class
-owners : (c n : ℕ) (ds : List ClassDecl) → c + length ds ≤ n → All (λ (N : Owned). N.owner < n) (methods_from c ds)
+owners : (c n : ℕ) (ds : List ClassDecl) → c + length ds ≤ n → AllByRecursion (λ (N : Owned). N.owner < n) (methods_from c ds)
 owners c n [] l = tt
 owners c n (d ∷ ds) l =
     All-append (λ (N : Owned). N.owner < n) (map (λ m. record { owner = c; method = m }) d.methods) (methods_from (suc c) ds)
     (All-map (λ (N : Owned). N.owner < n) (λ m. record { owner = c; method = m }) d.methods (every d.methods))
     (owners (suc c) n ds (omega arith))
   where
-    every : {A : Type 0} (xs : List A) → All (λ x. c < n) xs
+    every : {A : Type 0} (xs : List A) → AllByRecursion (λ x. c < n) xs
     every [] = tt
     every (x ∷ xs) = (omega arith, every xs)
 
@@ -108,7 +108,7 @@ owner_exists : (P : Program) {M : Owned} (k : ℕ) → method_at P k ≡ Some M 
 unfolding method_at
 owner_exists P k e = all_nth (λ (N : Owned). N.owner < length (table P)) (methods_from 0 (table P)) k (owners 0 (length (table P)) (table P) (omega arith)) e
 
-all_unusable : (P : Program) (n : ℕ) → All (CellExists P) (replicate n unusable)
+all_unusable : (P : Program) (n : ℕ) → AllByRecursion (CellExists P) (replicate n unusable)
 all_unusable P zero = tt
 all_unusable P (suc n) = (tt, all_unusable P n)
 

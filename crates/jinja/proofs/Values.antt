@@ -1,6 +1,6 @@
 -- Values fit what lies above and what the heap grows to, and the tests decide it. Assumes nothing.
 use Rattle.std.proofs.Common.{◌≡◌, ℕ, zero, suc, true, false, List, [], ◌∷◌, ◌++◌, map, replicate, Some, None, Option, sym, refl, subst}
-use Rattle.std.specs.List.{AllByRecursion as All}
+use Rattle.std.specs.List.{AllByRecursion}
 use Rattle.std.proofs.lemmas.Bool.{lt-ltb, ltb-true, and_from, and_parts}
 use Rattle.heap.specs.declared.value.Value.{Value}
 use Rattle.heap.specs.declared.value.Value.TheVariants as value
@@ -79,7 +79,7 @@ module _ {P : Program} where
   start_fits NullType e = null_fits
   start_fits (Class c) e = null_fits_class (ltb-true _ _ e)
 
-  pub starts_fit : {h : Meaning} (fs : List Field) → All (λ (f : Field). TypeExists P f.ty) fs → FitAll P h (map (λ (f : Field). start_value f.ty) fs) (map (λ (f : Field). f.ty) fs)
+  pub starts_fit : {h : Meaning} (fs : List Field) → AllByRecursion (λ (f : Field). TypeExists P f.ty) fs → FitAll P h (map (λ (f : Field). start_value f.ty) fs) (map (λ (f : Field). f.ty) fs)
   starts_fit [] e = nil
   starts_fit (f ∷ fs) e = cons (start_fits f.ty e.0) (starts_fit fs e.1)
 

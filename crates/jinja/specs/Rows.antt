@@ -1,6 +1,6 @@
 -- Rows: what a well-typing says of the operand stack and the registers at one instruction. Assumes nothing.
 use Rattle.std.specs.Prelude.{◌≡◌, ℕ, ◌+◌, List, [], ◌∷◌, ◌++◌, map, length, replicate}
-use Rattle.std.specs.List.{AllByRecursion as All}
+use Rattle.std.specs.List.{AllByRecursion}
 use Rattle.jinja.specs.declared.ty.Ty.{Ty}
 use Rattle.jinja.specs.declared.ty.Ty.TheVariants.{Class}
 use Rattle.jinja.specs.Program.{Program}
@@ -39,4 +39,4 @@ CellExists P unusable = Unit {0}
 -- a row of the method M: types of the program, and one cell for each register
 pub data RowOf (P : Program) (M : Owned) : Row → Type 0 where
   no_row : RowOf P M unreached
-  row : {st : List Ty} {lt : List Cell} → All (TypeExists P) st → All (CellExists P) lt → length lt ≡ registers M → RowOf P M (reached st lt)
+  row : {st : List Ty} {lt : List Cell} → AllByRecursion (TypeExists P) st → AllByRecursion (CellExists P) lt → length lt ≡ registers M → RowOf P M (reached st lt)

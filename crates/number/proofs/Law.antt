@@ -5,7 +5,7 @@ use Rattle.std.proofs.ByRecursion.{All-drop}
 use Rattle.std.proofs.lemmas.Nat.{div-add-mod', div_below, div-mul-add, mod-mul-add}
 use Rattle.std.proofs.lemmas.Bool.Decides.{nat_tests}
 use Rattle.std.proofs.lemmas.Bool.{cases_lt, lt-ltb, le-ltb}
-use Rattle.std.specs.List.{AllByRecursion as All}
+use Rattle.std.specs.List.{AllByRecursion}
 use Rattle.number.specs.Numbers.{number_limit, groups, number_at, bytes, bytes_by}
 use Rattle.number.specs.Laws.{WrittenIsRead, ReadWasWritten}
 
@@ -87,7 +87,7 @@ one g v m at x q b (suc k) bs gk l top pos e f =
     let t = lt-ltb b 128 l in
     record { k = suc k; n = b; rest = bs; turns = gk; small = omega (arith, pow-suc 128 k, pow_pos_128 k); pos = pos; value = e; split = rw t refl; place = rw t f }
 
-wrote : (s g v m at x q : ℕ) (bs : List ℕ) → g ≤ 4 → All (λ b. b < 256) bs → groups s g v m at bs ≡ Ok (x, q) → Behind g v m at x q bs
+wrote : (s g v m at x q : ℕ) (bs : List ℕ) → g ≤ 4 → AllByRecursion (λ b. b < 256) bs → groups s g v m at bs ≡ Ok (x, q) → Behind g v m at x q bs
 wrote s g v m at x q [] h small e = absurd (let z : ◌≡◌ {A = ℕ} 0 1 = cc in omega arith)
 wrote s g v m at x q (b ∷ bs) h small e = elim (cases_lt b 128) [
   | inl l ↦ one g v m at x q b (4 - g) bs (omega arith) l (λ t. grind (arith, nat_tests)) (λ t. grind (arith, nat_tests)) (grind (arith, nat_tests)) (grind (arith, nat_tests))

@@ -4,7 +4,7 @@ use Rattle.std.proofs.ByRecursion.{All-push, All-drop}
 use Rattle.std.proofs.lemmas.List.{append_assoc, append-nil, length-append}
 use Rattle.std.proofs.lemmas.Bool.{cases_lt, cases_eq}
 use Rattle.std.proofs.lemmas.Bool.Decides.{nat_tests}
-use Rattle.std.specs.List.{AllByRecursion as All}
+use Rattle.std.specs.List.{AllByRecursion}
 use Rattle.number.specs.declared.fault.NumberFault.{NumberFault}
 use Rattle.number.specs.declared.fault.NumberFault.TheVariants.{Cut, Padded, Oversize}
 use Rattle.number.specs.Numbers.{groups, number_at}
@@ -19,7 +19,7 @@ record Longer (front : List ℕ) : Type 0 where
   short : Form n groups
   less : length groups ≡ length front
 
-longer : (front : List ℕ) → 0 < length front → All Carries front → All (λ b. b < 256) front → Longer front
+longer : (front : List ℕ) → 0 < length front → AllByRecursion Carries front → AllByRecursion (λ b. b < 256) front → Longer front
 longer [] h low high = absurd (omega arith)
 longer (b ∷ []) h low high =
     record {
@@ -43,11 +43,11 @@ not_shortest : (front : List ℕ) (w : Longer front) → Shortest w.n (front ++ 
 not_shortest front w s = omega (arith, s.least w.groups w.short, w.less, length-append front (0 ∷ []))
 
 -- the groups `front` were read
-wrong : (s g v m at : ℕ) (front bs : List ℕ) (f : NumberFault) → length front ≡ g → g ≤ 4 → All Carries front → All (λ b. b < 256) front → All (λ b. b < 256) bs
+wrong : (s g v m at : ℕ) (front bs : List ℕ) (f : NumberFault) → length front ≡ g → g ≤ 4 → AllByRecursion Carries front → AllByRecursion (λ b. b < 256) front → AllByRecursion (λ b. b < 256) bs
     → groups s g v m at bs ≡ Err f → Wrong s (front ++ bs) f
 wrong s g v m at front [] f l h low high small e =
     let d : Cut s ≡ f = cc in
-    subst (Wrong s (front ++ [])) d (cut (omega (arith, length-append front [])) (subst (All Carries) (sym (append-nil front)) low))
+    subst (Wrong s (front ++ [])) d (cut (omega (arith, length-append front [])) (subst (AllByRecursion Carries) (sym (append-nil front)) low))
 wrong s g v m at front (b ∷ bs) f l h low high small e = elim (cases_lt b 16) [
   | inl tiny ↦
       (let d : Padded s ≡ f = grind (arith, nat_tests) in

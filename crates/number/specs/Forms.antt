@@ -1,6 +1,6 @@
 -- What it means that a number stands in a file, and what can be wrong with one: no word of how numbers are read.
 use Rattle.std.specs.Prelude.{◌≡◌, ℕ, ◌+◌, ◌-◌, ◌*◌, ◌<◌, ◌≤◌, List, [], ◌∷◌, ◌++◌, length, drop}
-use Rattle.std.specs.List.{AllByRecursion as All}
+use Rattle.std.specs.List.{AllByRecursion}
 use Rattle.number.specs.Numbers.{number_limit, most_groups, top_limit}
 use Rattle.number.specs.declared.fault.NumberFault.{NumberFault}
 use Rattle.number.specs.declared.fault.NumberFault.TheVariants.{Cut, Padded, Oversize}
@@ -29,8 +29,8 @@ Carries b = 128 ≤ b
 -- what is wrong with a number that begins at place p, where the file's bytes are bs
 pub data Wrong (p : ℕ) (bs : List ℕ) : NumberFault → Type 0 where
   -- the file ends, and more groups were to come
-  cut : length bs < most_groups → All Carries bs → Wrong p bs (Cut p)
+  cut : length bs < most_groups → AllByRecursion Carries bs → Wrong p bs (Cut p)
   -- a number stands there in more groups than it needs
   padded : (n : ℕ) (groups rest : List ℕ) → bs ≡ groups ++ rest → length groups ≤ most_groups → Form n groups → (Shortest n groups → ⊥) → Wrong p bs (Padded p)
   -- the fifth byte says more than the four bits that are left of 32
-  oversize : (front rest : List ℕ) (b : ℕ) → bs ≡ front ++ b ∷ rest → length front ≡ most_groups - 1 → All Carries front → top_limit ≤ b → Wrong p bs (Oversize p)
+  oversize : (front rest : List ℕ) (b : ℕ) → bs ≡ front ++ b ∷ rest → length front ≡ most_groups - 1 → AllByRecursion Carries front → top_limit ≤ b → Wrong p bs (Oversize p)

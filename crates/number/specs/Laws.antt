@@ -1,6 +1,6 @@
 -- The laws of numbers.
 use Rattle.std.specs.Prelude.{◌≡◌, ℕ, ◌+◌, ◌<◌, List, ◌++◌, length, drop, ℤ, Ok, Err}
-use Rattle.std.specs.List.{AllByRecursion as All}
+use Rattle.std.specs.List.{AllByRecursion}
 use Rattle.number.specs.declared.fault.NumberFault.{NumberFault}
 use Rattle.number.specs.Numbers.{number_limit, number_at, bytes}
 use Rattle.number.specs.Forms.{Stands, Wrong}
@@ -8,7 +8,7 @@ use Rattle.number.specs.Signed.{signed, unsigned}
 
 -- what a file is made of
 abbrev pub AllBytes : List ℕ → Type 0
-AllBytes file = All (λ b. b < 256) file
+AllBytes file = AllByRecursion (λ b. b < 256) file
 
 -- the bytes of a number are read as that number, whatever stands before and behind
 abbrev pub WrittenIsRead : Type 0

@@ -1,6 +1,6 @@
 -- Tables with one more class.
 use Rattle.std.proofs.Common.{◌≡◌, ℕ, ◌+◌, ◌*◌, ◌≤◌, true, eqb, List, [], ◌∷◌, ◌++◌, map, length, drop, sym, refl, ap, ◌∙◌, arith}
-use Rattle.std.specs.List.{AllByRecursion as All}
+use Rattle.std.specs.List.{AllByRecursion}
 use Rattle.std.proofs.lemmas.List.{length_push, length-drop, map_push, drop_all, take_all}
 use Rattle.std.proofs.lemmas.Bool.{and_parts, and_from, eq-eqb}
 use Rattle.jinja.specs.declared.program.Field.{Field}
@@ -54,7 +54,7 @@ module _ (t u : Tables) (s : Span) (o : OnlyFields t u) (b : Behind (fields_of t
         params = omega (arith, full.tallied.params, n, ap length o.params);
       }
 
-chained_push : (fs : List Field) (ms : List MethodDecl) (k : ℕ) (rs : List ClassRec) (x : ClassRec) → chained k rs ≡ true → All (MethodsWithin (length ms)) rs →
+chained_push : (fs : List Field) (ms : List MethodDecl) (k : ℕ) (rs : List ClassRec) (x : ClassRec) → chained k rs ≡ true → AllByRecursion (MethodsWithin (length ms)) rs →
     x.methods.first ≡ k + count_methods (map (class_view fs ms) rs) → chained k (rs ++ x ∷ []) ≡ true
 chained_push fs ms k [] x h w e = and_from (eqb x.methods.first k) true (eq-eqb x.methods.first k (omega arith)) refl
 chained_push fs ms k (r ∷ rs) x h w e =

@@ -1,6 +1,6 @@
 -- Tables that grow at their ends: what their spans hold stays as it was.
 use Rattle.std.proofs.Common.{◌≡◌, List, [], ◌∷◌, map, length, take, sym, refl, ap, ◌∙◌, arith}
-use Rattle.std.specs.List.{AllByRecursion as All}
+use Rattle.std.specs.List.{AllByRecursion}
 use Rattle.std.proofs.lemmas.List.{length-map, take-map, take_all}
 use Rattle.jinja.specs.declared.ty.Ty.{Ty}
 use Rattle.jinja.specs.declared.ty.Ty.TheVariants.{Void}
@@ -28,14 +28,14 @@ part_front : {X : Type 0} (s : Span) (xs ys : List X) → Front xs ys → Within
 part_front s xs ys f w = sym (part_in s (length xs) ys w) ∙ ap (part s) f
 
 module _ (ps ps' : List Ty) (is is' : List Instr) (hs hs' : List Handler) (p : Front ps ps') (i : Front is is') (h : Front hs hs') where
-  pub methods_kept : (rs : List MethodRec) → All (ParamsWithin (length ps)) rs → All (CodeWithin (length is)) rs → All (HandlersWithin (length hs)) rs →
+  pub methods_kept : (rs : List MethodRec) → AllByRecursion (ParamsWithin (length ps)) rs → AllByRecursion (CodeWithin (length is)) rs → AllByRecursion (HandlersWithin (length hs)) rs →
       map (method_view ps' is' hs') rs ≡ map (method_view ps is hs) rs
   methods_kept [] a b c = refl
   methods_kept (r ∷ rs) a b c =
       rw (part_front r.params ps ps' p a.0, part_front r.code is is' i b.0, part_front r.handlers hs hs' h c.0, methods_kept rs a.1 b.1 c.1) refl
 
 module _ (fs fs' : List Field) (ms ms' : List MethodDecl) (f : Front fs fs') (m : Front ms ms') where
-  classes_kept : (rs : List ClassRec) → All (FieldsWithin (length fs)) rs → All (MethodsWithin (length ms)) rs → map (class_view fs' ms') rs ≡ map (class_view fs ms) rs
+  classes_kept : (rs : List ClassRec) → AllByRecursion (FieldsWithin (length fs)) rs → AllByRecursion (MethodsWithin (length ms)) rs → map (class_view fs' ms') rs ≡ map (class_view fs ms) rs
   classes_kept [] a b = refl
   classes_kept (r ∷ rs) a b = rw (part_front r.fields fs fs' f a.0, part_front r.methods ms ms' m b.0, classes_kept rs a.1 b.1) refl
 
@@ -54,13 +54,13 @@ no_method =
     record { name = 0; params = none; result = Void; height = 0; extras = 0; code = none; handlers = none }
 
 module _ (t : Tables) where
-  pub params_within : All (ParamsWithin (length (params_of t))) (methods_of t)
+  pub params_within : AllByRecursion (ParamsWithin (length (params_of t))) (methods_of t)
   params_within = rw (count_params t) (all_filled (ParamsWithin t.param_count) t.method_count t.methods no_method t.method_params)
 
-  pub code_within : All (CodeWithin (length (instrs_of t))) (methods_of t)
+  pub code_within : AllByRecursion (CodeWithin (length (instrs_of t))) (methods_of t)
   code_within = rw (count_instrs t) (all_filled (CodeWithin t.instr_count) t.method_count t.methods no_method t.method_code)
 
-  pub handlers_within : All (HandlersWithin (length (handlers_of t))) (methods_of t)
+  pub handlers_within : AllByRecursion (HandlersWithin (length (handlers_of t))) (methods_of t)
   handlers_within = rw (count_handlers t) (all_filled (HandlersWithin t.handler_count) t.method_count t.methods no_method t.method_handlers)
 
 module _ (t u : Tables) (e : Extends t u) where

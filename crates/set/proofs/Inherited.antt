@@ -1,6 +1,6 @@
 -- The methods of a program by their numbers are those of its tables, so that the one that a class sees is found there.
 use Rattle.std.proofs.Common.{◌≡◌, ℕ, zero, suc, ◌+◌, ◌<◌, ◌≤◌, true, ◌&&◌, eqb, List, [], ◌∷◌, ◌++◌, map, length, get_or, take, drop, Some, None, Option, sym, refl, ap, ◌∙◌, inl, inr, arith, take-add}
-use Rattle.std.specs.List.{slice_get, flat_map, AllByRecursion as All}
+use Rattle.std.specs.List.{slice_get, flat_map, AllByRecursion}
 use Rattle.std.proofs.lemmas.List.{map-append, drop-drop, get_or-take, length-take-le}
 use Rattle.std.proofs.lemmas.Option.{slice_get-get_or}
 use Rattle.std.proofs.lemmas.Bool.{and_parts, eqb-true, cases_Bool}
@@ -71,7 +71,7 @@ methods_joined c [] = refl
 methods_joined c (d ∷ ds) = map-append _ (map (λ m. record { owner = c; method = m }) d.methods) (methods_from (suc c) ds) ∙ rw (methods_owned c d.methods, methods_joined (suc c) ds) refl
 
 -- classes whose methods stand one behind the other from k on have just those, in that order
-chain_joined : (fs : List Field) (ms : List MethodDecl) (k : ℕ) (rs : List ClassRec) → chained k rs ≡ true → All (MethodsWithin (length ms)) rs →
+chain_joined : (fs : List Field) (ms : List MethodDecl) (k : ℕ) (rs : List ClassRec) → chained k rs ≡ true → AllByRecursion (MethodsWithin (length ms)) rs →
     flat_map (λ d. d.methods) (map (class_view fs ms) rs) ≡ take (count_methods (map (class_view fs ms) rs)) (drop k ms)
 chain_joined fs ms k [] h w = refl
 chain_joined fs ms k (r ∷ rs) h w =
@@ -85,7 +85,7 @@ chain_joined fs ms k (r ∷ rs) h w =
     ap (λ xs. part r.methods ms ++ xs) (t ∙ ap (take more) (sym (drop-drop n k ms)))
     ∙ (ap (λ xs. xs ++ take more (drop n (drop k ms))) a ∙ (sym (take-add n more (drop k ms)) ∙ ap (λ i. take (i + more) (drop k ms)) (sym l)))
 
-pub chain_end : (fs : List Field) (ms : List MethodDecl) (k : ℕ) (rs : List ClassRec) → chained k rs ≡ true → All (MethodsWithin (length ms)) rs → k ≤ length ms →
+pub chain_end : (fs : List Field) (ms : List MethodDecl) (k : ℕ) (rs : List ClassRec) → chained k rs ≡ true → AllByRecursion (MethodsWithin (length ms)) rs → k ≤ length ms →
     k + count_methods (map (class_view fs ms) rs) ≤ length ms
 chain_end fs ms k [] h w e = omega arith
 chain_end fs ms k (r ∷ rs) h w e =
@@ -97,7 +97,7 @@ chain_end fs ms k (r ∷ rs) h w e =
     omega arith
 
 module _ (t : Tables) where
-  within : All (MethodsWithin (length (method_views t))) (classes_of t)
+  within : AllByRecursion (MethodsWithin (length (method_views t))) (classes_of t)
   within = rw (length_views t) (methods_within t)
 
   program_methods : map (λ (o : Owned). o.method) (methods_from 0 (table (program_of t))) ≡ take (count_methods (program_of t)) (method_views t)

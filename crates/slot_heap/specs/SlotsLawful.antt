@@ -1,7 +1,7 @@
 -- Every slot heap is lawful.
 use Rattle.std.specs.Prelude.{◌≡◌, ◌≤◌, List, [], ◌∷◌, map, length, take}
 use Rattle.std.proofs.Common.{◌∙◌, arith}
-use Rattle.std.specs.List.{AllByRecursion as All}
+use Rattle.std.specs.List.{AllByRecursion}
 use Rattle.std.proofs.lemmas.List.{length-map, length-take-le}
 use Rattle.slot_heap.specs.declared.slots.Slot.{Slot}
 use Rattle.slot_heap.specs.declared.slots.SlotHeap.{SlotHeap}
@@ -13,7 +13,7 @@ pub slots_length : (h : SlotHeap) → length (slot_meaning h).objects ≡ h.coun
 slots_length h =
     length-map (take h.count h.slots) slot_object ∙ length-take-le h.count h.slots (omega arith)
 
-slots_short : (ss : List Slot) → All (λ o. length o.row ≤ row_limit) (map slot_object ss)
+slots_short : (ss : List Slot) → AllByRecursion (λ o. length o.row ≤ row_limit) (map slot_object ss)
 slots_short [] = tt
 slots_short (s ∷ ss) = (rw (length-take-le s.len s.row (omega arith)) s.short, slots_short ss)
 

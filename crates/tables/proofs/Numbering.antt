@@ -1,6 +1,6 @@
 -- The methods of the classes stand one behind the other, so that a method's place is its number.
 use Rattle.std.proofs.Common.{◌≡◌, ℕ, zero, suc, ◌+◌, ◌-◌, ◌≤◌, true, eqb, List, [], ◌∷◌, map, length, take, Some, None, Option, refl, ap, ◌∙◌, arith}
-use Rattle.std.specs.List.{slice_get, AllByRecursion as All}
+use Rattle.std.specs.List.{slice_get, AllByRecursion}
 use Rattle.std.proofs.lemmas.List.{length-map}
 use Rattle.std.proofs.lemmas.Bool.{and_parts, eqb-true}
 use Rattle.jinja.specs.declared.program.Field.{Field}
@@ -20,13 +20,13 @@ use Rattle.tables.proofs.Positions.{position_map, later}
 some_same : {A : Type 0} (x y : A) → ◌≡◌ {A = Option A} (Some x) (Some y) → x ≡ y
 some_same x y e = cc
 
-nth_all : {A : Type 0} (P : A → Type 0) (xs : List A) (i : ℕ) (x : A) → All P xs → slice_get xs i ≡ Some x → P x
+nth_all : {A : Type 0} (P : A → Type 0) (xs : List A) (i : ℕ) (x : A) → AllByRecursion P xs → slice_get xs i ≡ Some x → P x
 nth_all P [] i x h e = absurd (let z : ◌≡◌ {A = ℕ} 0 1 = cc in omega arith)
 nth_all P (y ∷ xs) zero x h e = let q : y ≡ x = some_same y x e in rw q at h.0
 nth_all P (y ∷ xs) (suc i) x h e = nth_all P xs i x h.1 e
 
 -- the methods of the classes before the i-th are as many as its first method's number says
-pub chained_first : (fs : List Field) (ms : List MethodDecl) (k : ℕ) (rs : List ClassRec) (i : ℕ) (r : ClassRec) → chained k rs ≡ true → All (MethodsWithin (length ms)) rs →
+pub chained_first : (fs : List Field) (ms : List MethodDecl) (k : ℕ) (rs : List ClassRec) (i : ℕ) (r : ClassRec) → chained k rs ≡ true → AllByRecursion (MethodsWithin (length ms)) rs →
     slice_get rs i ≡ Some r → k + count_methods (take i (map (class_view fs ms) rs)) ≡ r.methods.first
 chained_first fs ms k [] i r h w e = absurd (let z : ◌≡◌ {A = ℕ} 0 1 = cc in omega arith)
 chained_first fs ms k (x ∷ rs) zero r h w e =
@@ -56,10 +56,10 @@ module _ (t : Tables) where
   pub length_views : length (method_views t) ≡ t.method_count
   length_views = length-map (methods_of t) (method_view (params_of t) (instrs_of t) (handlers_of t)) ∙ length_methods t
 
-  pub methods_within : All (MethodsWithin t.method_count) (classes_of t)
+  pub methods_within : AllByRecursion (MethodsWithin t.method_count) (classes_of t)
   methods_within = all_filled (MethodsWithin t.method_count) t.class_count t.classes no_record t.class_methods
 
-  pub fields_within : All (FieldsWithin t.field_count) (classes_of t)
+  pub fields_within : AllByRecursion (FieldsWithin t.field_count) (classes_of t)
   fields_within = all_filled (FieldsWithin t.field_count) t.class_count t.classes no_record t.class_fields
 
   -- the number of a class's first method is where its span begins
@@ -67,7 +67,7 @@ module _ (t : Tables) where
   unfolding program_of
   first_method c r e =
       let n = record_nth t c r e in
-      let w : All (MethodsWithin (length (method_views t))) (classes_of t) = rw length_views methods_within in
+      let w : AllByRecursion (MethodsWithin (length (method_views t))) (classes_of t) = rw length_views methods_within in
       let f = chained_first (fields_of t) (method_views t) 0 (classes_of t) (c - 4) r t.numbered w n.1 in
       count_own (program_of t) c n.0 ∙ omega arith
 

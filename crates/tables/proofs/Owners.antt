@@ -1,6 +1,6 @@
 -- The methods of the program and of the tables have the same numbers, and their classes are found by them.
 use Rattle.std.proofs.Common.{◌≡◌, ℕ, zero, suc, ◌+◌, ◌-◌, ◌<◌, ◌≤◌, true, eqb, List, [], ◌∷◌, ◌++◌, map, length, get_or, take, drop, Some, None, sym, refl, ap, ◌∙◌, arith, take-add}
-use Rattle.std.specs.List.{slice_get, flat_map, AllByRecursion as All}
+use Rattle.std.specs.List.{slice_get, flat_map, AllByRecursion}
 use Rattle.std.proofs.lemmas.List.{map-append, drop-drop, take_all, take_more, drop_more, drop_all, get_or-take, get_or-map, length-map}
 use Rattle.std.proofs.lemmas.Option.{slice_get-get_or}
 use Rattle.std.proofs.lemmas.Bool.{and_parts, eqb-true}
@@ -35,7 +35,7 @@ methods_joined c (d ∷ ds) =
     map-append (λ (o : Owned). o.method) (owned_by c d.methods) (methods_from (suc c) ds)
     ∙ (rw (map_unowned c d.methods, methods_joined (suc c) ds) refl)
 
-chained_joined : (fs : List Field) (ms : List MethodDecl) (k : ℕ) (rs : List ClassRec) → chained k rs ≡ true → All (MethodsWithin (length ms)) rs →
+chained_joined : (fs : List Field) (ms : List MethodDecl) (k : ℕ) (rs : List ClassRec) → chained k rs ≡ true → AllByRecursion (MethodsWithin (length ms)) rs →
     flat_map (λ d. d.methods) (map (class_view fs ms) rs) ≡ take (count_methods (map (class_view fs ms) rs)) (drop k ms)
 chained_joined fs ms k [] h w = refl
 chained_joined fs ms k (x ∷ rs) h w =
@@ -46,7 +46,7 @@ chained_joined fs ms k (x ∷ rs) h w =
     rw (length_part x.methods ms w.0, f, take-add x.methods.count n (drop k ms), drop-drop x.methods.count k ms, t) refl
 
 module _ (t : Tables) where
-  within_views : All (MethodsWithin (length (method_views t))) (classes_of t)
+  within_views : AllByRecursion (MethodsWithin (length (method_views t))) (classes_of t)
   within_views = rw (length_views t) (methods_within t)
 
   pub methods_numbered : (k : ℕ) → Whole t → unowned (method_at (program_of t) k) ≡ method_of t k

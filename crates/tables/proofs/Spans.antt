@@ -1,6 +1,6 @@
 -- Spans of filled tables: what lies in one, and how many items a table is filled with.
 use Rattle.std.proofs.Common.{◌≡◌, ℕ, ◌+◌, ◌-◌, ◌<◌, ◌≤◌, List, map, length, take, drop, ap, ◌∙◌, arith}
-use Rattle.std.specs.List.{AllWithin, AllByRecursion as All}
+use Rattle.std.specs.List.{AllWithin, AllByRecursion}
 use Rattle.std.proofs.lemmas.List.{length-take, length-take-le, length-drop, get_or-take, drop-take, take-take, take-map, drop-map}
 use Rattle.std.proofs.ByRecursion.{All-from_get_or}
 use Rattle.tables.specs.declared.records.Span.{Span}
@@ -9,7 +9,7 @@ use Rattle.tables.specs.Spans.{part, Within}
 use Rattle.tables.specs.Views.{classes_of, fields_of, methods_of, params_of, instrs_of, handlers_of}
 
 -- what holds of each item up to n holds of all of the first n
-pub all_filled : {X : Type 0} (P : X → Type 0) (n : ℕ) (xs : List X) (d : X) → AllWithin P xs 0 n → All P (take n xs)
+pub all_filled : {X : Type 0} (P : X → Type 0) (n : ℕ) (xs : List X) (d : X) → AllWithin P xs 0 n → AllByRecursion P (take n xs)
 all_filled P n xs d h =
     All-from_get_or P (take n xs) d (λ i l.
     let k : i < n = omega (arith, length-take n xs) in

@@ -1,6 +1,6 @@
 -- A well-typing, cut down to the rows in use, is a solution of the method's flow. Assumes nothing.
 use Rattle.std.proofs.Common.{◌≡◌, ℕ, zero, suc, ◌<◌, ◌≤◌, Bool, true, false, cond, leb, List, [], ◌∷◌, length, Some, None, Option, sym, refl, ◌∙◌, subst, arith}
-use Rattle.std.specs.List.{slice_get, AllByRecursion as All}
+use Rattle.std.specs.List.{slice_get, AllByRecursion}
 use Rattle.std.proofs.lemmas.Bool.{le-leb, leb-true}
 use Rattle.jinja.specs.declared.ty.Ty.{Ty}
 use Rattle.jinja.specs.declared.instr.Instr.{Instr}
@@ -51,16 +51,16 @@ cut_below {P} M r l = go (leb (row_height r) M.method.height)
     go true = l
     go false = le_unreached
 
-all_flows : (P : Program) (M : Owned) (rows : Table) (es : List Edge) → FlowAll P M rows es → All (FlowsEdge P M rows) es
+all_flows : (P : Program) (M : Owned) (rows : Table) (es : List Edge) → FlowAll P M rows es → AllByRecursion (FlowsEdge P M rows) es
 all_flows P M rows [] a = tt
 all_flows P M rows (edge p st lt ∷ es) (flow f fs) = (f, all_flows P M rows es fs)
 
-flows_inside : (P : Program) (M : Owned) (rows : Table) (es : List Edge) → All (FlowsEdge P M rows) es → All (Inside (length M.method.code)) es
+flows_inside : (P : Program) (M : Owned) (rows : Table) (es : List Edge) → AllByRecursion (FlowsEdge P M rows) es → AllByRecursion (Inside (length M.method.code)) es
 flows_inside P M rows [] a = tt
 flows_inside P M rows (edge p st lt ∷ es) a = (a.0.inside, flows_inside P M rows es a.1)
 
 -- the successors of a row in use get rows in use
-carried : {P : Program} (w : WellFormed P) {M : Owned} (i : Instr) (pc : ℕ) {st : List Ty} {lt : List Cell} {es : List Edge} → InUse P M (merged (reached st lt)) → transfer P M i pc st lt ≡ Some es → All (CarriesRow P M) es
+carried : {P : Program} (w : WellFormed P) {M : Owned} (i : Instr) (pc : ℕ) {st : List Ty} {lt : List Cell} {es : List Edge} → InUse P M (merged (reached st lt)) → transfer P M i pc st lt ≡ Some es → AllByRecursion (CarriesRow P M) es
 carried w i pc (row_in_use (row s l n) h) a = rule_sends_rows w s l n h (transfer_sound w i pc _ _ a)
 
 module _ {P : Program} (w : WellFormed P) (M : Owned) (k : ℕ) (m : method_at P k ≡ Some M) (few : length M.method.code ≤ most_nodes) (rows : Table) (t : WellTyping P M rows) where
@@ -93,13 +93,13 @@ module _ {P : Program} (w : WellFormed P) (M : Owned) (k : ℕ) (m : method_at P
           let s = sent_edges in
           let a = passed (transfer P M i pc st lt) _ s.1 in
           let h = passed (send_handlers P M M.method.handlers i pc st lt) _ a.2 in
-          let q = all_parts (FlowsEdge P M rows) a.0 h.0 (subst (All (FlowsEdge P M rows)) (sym (some_inj h.2)) (all_flows P M rows s.0 s.2)) in
+          let q = all_parts (FlowsEdge P M rows) a.0 h.0 (subst (AllByRecursion (FlowsEdge P M rows)) (sym (some_inj h.2)) (all_flows P M rows s.0 s.2)) in
           go e a.0 a.1 q.0 (handlers_suit i pc (FlowsEdge P M rows) M.method.handlers h.0 h.1 q.1)
         where
           T : ℕ → Merge
           T = λ pc. cut M (rows pc)
 
-          at_list : (e : ℕ) (es : List Edge) → All (CarriesRow P M) es → All (FlowsEdge P M rows) es → Lands (type_rows P M k w m few) T (sent_at es e)
+          at_list : (e : ℕ) (es : List Edge) → AllByRecursion (CarriesRow P M) es → AllByRecursion (FlowsEdge P M rows) es → Lands (type_rows P M k w m few) T (sent_at es e)
           at_list e [] c f = nothing_lands
           at_list zero (x ∷ es) c f = edge_lands x c.0 f.0
           at_list (suc e) (x ∷ es) c f = at_list e es c.1 f.1
@@ -112,7 +112,7 @@ module _ {P : Program} (w : WellFormed P) (M : Owned) (k : ℕ) (m : method_at P
               relevant true r = let z = c j x q r in edge_lands (handler_edge st lt x) (taken_handler_row w x u z.0) z.1
               relevant false r = nothing_lands
 
-          go : (e : ℕ) (es : List Edge) → transfer P M i pc st lt ≡ Some es → All (FlowsEdge P M rows) es → ((j : ℕ) (x : Handler) → slice_get M.method.handlers j ≡ Some x → is_relevant P i pc x ≡ true → Suits P M st x × FlowsEdge P M rows (handler_edge st lt x)) → Lands (type_rows P M k w m few) T (edge_of P M i pc e st lt)
+          go : (e : ℕ) (es : List Edge) → transfer P M i pc st lt ≡ Some es → AllByRecursion (FlowsEdge P M rows) es → ((j : ℕ) (x : Handler) → slice_get M.method.handlers j ≡ Some x → is_relevant P i pc x ≡ true → Suits P M st x × FlowsEdge P M rows (handler_edge st lt x)) → Lands (type_rows P M k w m few) T (edge_of P M i pc e st lt)
           go zero es a f c = rw a (at_list 0 es (carried w i pc u a) f)
           go (suc zero) es a f c = rw a (at_list 1 es (carried w i pc u a) f)
           go (suc (suc j)) es a f c = at_handler j (slice_get M.method.handlers j) refl c

@@ -1,7 +1,7 @@
 -- The numbers of the row that a method begins with, and what they show. Assumes nothing.
 use Rattle.std.proofs.Common.{◌≡◌, ℕ, zero, suc, ◌+◌, ◌-◌, ◌<◌, ◌≤◌, List, [], ◌∷◌, ◌++◌, map, length, get_or, take, drop, set, replicate, sym, refl, ap, ◌∙◌, subst, arith}
 use borrow.Rule.Slice.PartMut.{put_mid}
-use Rattle.std.specs.List.{AllByRecursion as All}
+use Rattle.std.specs.List.{AllByRecursion}
 use Rattle.std.proofs.lemmas.List.{length-append, length-map, length-replicate, take_at, append-nil, drop-replicate}
 use Rattle.jinja.specs.declared.ty.Ty.{Ty}
 use Rattle.jinja.specs.Program.{Program}
@@ -61,7 +61,7 @@ first_written M few r ys e f =
     ∙ ap (λ (a : ℕ). 1 ∷ (replicate 16 absent ++ a ∷ (map type_number M.method.params ++ replicate (15 - length M.method.params) absent))) e
     ∙ sym (first_numbers M few)
 
-small_cells : (P : Program) → length (table P) ≤ 32 → (lt : List Cell) → All (CellExists P) lt → Small (map cell_number lt)
+small_cells : (P : Program) → length (table P) ≤ 32 → (lt : List Cell) → AllByRecursion (CellExists P) lt → Small (map cell_number lt)
 small_cells P few [] a k = omega arith
 small_cells P few (usable t ∷ lt) a zero = let l = type_told P t few a.0 in omega arith
 small_cells P few (unusable ∷ lt) a zero = omega arith
@@ -78,7 +78,7 @@ module _ {P : Program} (w : WellFormed P) (few : length (table P) ≤ 32) (M : O
   abbrev numbers : List ℕ
   numbers = row_numbers (reached [] lt)
 
-  all_back : (cs : List Cell) → All (CellExists P) cs → cells_in (map cell_number cs) ≡ cs
+  all_back : (cs : List Cell) → AllByRecursion (CellExists P) cs → cells_in (map cell_number cs) ≡ cs
   all_back [] a = refl
   all_back (c ∷ cs) a = rw (cell_back w few c a.0, all_back cs a.1) refl
 

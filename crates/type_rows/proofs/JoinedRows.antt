@@ -1,6 +1,6 @@
 -- A row whose numbers are joined with those of a row of the same height shows the join of both. Assumes nothing.
 use Rattle.std.proofs.Common.{◌≡◌, ℕ, ◌-◌, ◌<◌, ◌≤◌, Bool, true, false, cond, List, map, reverse, length, get_or, take, drop, Some, None, Option, sym, ap, ◌∙◌, subst, arith}
-use Rattle.std.specs.List.{AllByRecursion as All}
+use Rattle.std.specs.List.{AllByRecursion}
 use Rattle.std.proofs.lemmas.List.{take-take, length-drop, length-reverse}
 use Rattle.jinja.specs.declared.ty.Ty.{Ty}
 use Rattle.jinja.specs.Options.{◌>>=◌}
@@ -31,7 +31,7 @@ pub record Joins (P : Program) (h n : ℕ) (xs ys zs : List ℕ) : Type 0 where
   pub stack : take h (drop 1 zs) ≡ join_numbers P (take h (drop 1 xs)) (take h (drop 1 ys))
   pub registers : take n (drop 17 zs) ≡ join_numbers P (take n (drop 17 xs)) (take n (drop 17 ys))
 
-in_use_parts : {P : Program} {M : Owned} {st : List Ty} {lt : List Cell} → InUse P M (merged (reached st lt)) → All (TypeExists P) st × All (CellExists P) lt
+in_use_parts : {P : Program} {M : Owned} {st : List Ty} {lt : List Cell} → InUse P M (merged (reached st lt)) → AllByRecursion (TypeExists P) st × AllByRecursion (CellExists P) lt
 in_use_parts (row_in_use (row s l n) h) = (s, l)
 
 module _ (P : Program) (xs ys zs : List ℕ) (lx : length xs ≡ 33) (ly : length ys ≡ 33) (same : get_or ys 0 0 ≡ get_or xs 0 0) (low : get_or xs 0 0 ≤ 17) (n : ℕ) (narrow : n ≤ 16) (j : Joins P (get_or xs 0 0 - 1) n xs ys zs) where
@@ -80,7 +80,7 @@ module _ (P : Program) (xs ys zs : List ℕ) (lx : length xs ≡ 33) (ly : lengt
       let p = length-reverse (take h (stack_part xs)) ∙ as_high ∙ sym (length-reverse (take h (stack_part ys))) in
       let d : length (drop 17 xs) ≡ length (drop 17 ys) = (let i = length-drop 17 xs in let j = length-drop 17 ys in omega arith) in
       let q = take_as_long n (register_part xs) (register_part ys) (take_as_long 16 (drop 17 xs) (drop 17 ys) d) in
-      let s = stack_joined w few us vs p a.0 (subst (All (TypeExists P)) other_read b.0) in
+      let s = stack_joined w few us vs p a.0 (subst (AllByRecursion (TypeExists P)) other_read b.0) in
       let c = cells_joined w few cu cv q a.1 b.1 in
       ap (λ (l : List Ty). maybe (join_stack P (row_types xs) l >>= λ a. join_cells P (row_cells n xs) (row_cells n ys) >>= λ b. Some (reached a b)) clash merged) other_read
       ∙ both_joined (join_stack P (map type_of_number us) (map type_of_number vs)) (join_cells P (cells_in cu) (cells_in cv)) (has_absent (join_numbers P us vs)) (map type_of_number (join_numbers P us vs)) (cells_in (join_numbers P cu cv)) s c

@@ -1,6 +1,6 @@
 -- Numbers joined pair by pair are stacks and registers joined. Assumes nothing.
 use Rattle.std.proofs.Common.{◌≡◌, ℕ, ◌<◌, ◌≤◌, Bool, true, false, cond, ◌||◌, eqb, List, [], ◌∷◌, map, length, Some, None, Option, sym, refl, ap, ◌∙◌, subst, arith}
-use Rattle.std.specs.List.{AllByRecursion as All}
+use Rattle.std.specs.List.{AllByRecursion}
 use Rattle.std.proofs.lemmas.Bool.{ne_eqb, lt-ltb, ltb-true}
 use Rattle.jinja.specs.declared.ty.Ty.{Ty}
 use Rattle.jinja.specs.declared.ty.Ty.TheVariants.{Void, Boolean, Integer, NullType, Class}
@@ -54,7 +54,7 @@ module _ {P : Program} (w : WellFormed P) (few : length (table P) ≤ 32) where
         rw (ih, ne_eqb (type_number t) absent (omega arith), type_back t) (on_top t (has_absent js))
 
   -- stacks have a join exactly where no joined number is absent, and then it is read from the numbers
-  pub stack_joined : (us vs : List ℕ) → length us ≡ length vs → All (TypeExists P) (map type_of_number us) → All (TypeExists P) (map type_of_number vs) → join_stack P (map type_of_number us) (map type_of_number vs) ≡ cond (has_absent (join_numbers P us vs)) None (Some (map type_of_number (join_numbers P us vs)))
+  pub stack_joined : (us vs : List ℕ) → length us ≡ length vs → AllByRecursion (TypeExists P) (map type_of_number us) → AllByRecursion (TypeExists P) (map type_of_number vs) → join_stack P (map type_of_number us) (map type_of_number vs) ≡ cond (has_absent (join_numbers P us vs)) None (Some (map type_of_number (join_numbers P us vs)))
   stack_joined [] [] n a b = refl
   stack_joined [] (v ∷ vs) n a b = absurd (omega arith)
   stack_joined (u ∷ us) [] n a b = absurd (omega arith)
@@ -73,7 +73,7 @@ module _ {P : Program} (w : WellFormed P) (few : length (table P) ≤ 32) where
       go None q = tt
       go (Some v) q = joined_exists t u a b q
 
-  pub cells_joined : (us vs : List ℕ) → length us ≡ length vs → All (CellExists P) (cells_in us) → All (CellExists P) (cells_in vs) → join_cells P (cells_in us) (cells_in vs) ≡ Some (cells_in (join_numbers P us vs))
+  pub cells_joined : (us vs : List ℕ) → length us ≡ length vs → AllByRecursion (CellExists P) (cells_in us) → AllByRecursion (CellExists P) (cells_in vs) → join_cells P (cells_in us) (cells_in vs) ≡ Some (cells_in (join_numbers P us vs))
   cells_joined [] [] n a b = refl
   cells_joined [] (v ∷ vs) n a b = absurd (omega arith)
   cells_joined (u ∷ us) [] n a b = absurd (omega arith)

@@ -1,6 +1,6 @@
 -- What the numbers of a row show, by the first of them. Assumes nothing.
 use Rattle.std.proofs.Common.{◌≡◌, ℕ, suc, ◌-◌, ◌<◌, ◌≤◌, Bool, true, false, cond, List, [], ◌∷◌, length, get_or, Option, ap, ◌∙◌, arith}
-use Rattle.std.specs.List.{slice_get, AllByRecursion as All}
+use Rattle.std.specs.List.{slice_get, AllByRecursion}
 use Rattle.std.proofs.lemmas.Bool.{le-leb, lt-leb, ltb-true}
 use Rattle.jinja.specs.declared.ty.Ty.{Ty}
 use Rattle.jinja.specs.declared.ty.Ty.TheVariants.{Void, Boolean, Integer, NullType, Class}
@@ -41,7 +41,7 @@ type_told P Integer l e = omega arith
 type_told P NullType l e = omega arith
 type_told P (Class c) l e = let k = ltb-true c (length (table P)) e in omega arith
 
-types_told : (P : Program) (ts : List Ty) → length (table P) ≤ 32 → All (TypeExists P) ts → Told ts
+types_told : (P : Program) (ts : List Ty) → length (table P) ≤ 32 → AllByRecursion (TypeExists P) ts → Told ts
 types_told P [] l a = tt
 types_told P (t ∷ ts) l a = (type_told P t l a.0, types_told P ts l a.1)
 

@@ -1,6 +1,6 @@
 -- A solution of a method's flow is a well-typing of the method. Assumes nothing.
 use Rattle.std.proofs.Common.{◌≡◌, ℕ, suc, ◌+◌, ◌<◌, ◌≤◌, Bool, true, false, List, [], ◌∷◌, ◌++◌, length, Some, sym, refl, ap, ◌∙◌, subst, arith}
-use Rattle.std.specs.List.{slice_get, AllByRecursion as All}
+use Rattle.std.specs.List.{slice_get, AllByRecursion}
 use Rattle.std.proofs.ByRecursion.{All-append}
 use Rattle.jinja.specs.declared.ty.Ty.{Ty}
 use Rattle.jinja.specs.declared.instr.Instr.{Instr}
@@ -33,7 +33,7 @@ use Rattle.type_rows.specs.Typings.{row_of, rows_of}
 abbrev pub FlowsEdge : Program → Owned → Table → Edge → Type 0
 FlowsEdge P M rows (edge p st lt) = Flows P M rows p st lt
 
-pub flow_all : (P : Program) (M : Owned) (rows : Table) (es : List Edge) → All (FlowsEdge P M rows) es → FlowAll P M rows es
+pub flow_all : (P : Program) (M : Owned) (rows : Table) (es : List Edge) → AllByRecursion (FlowsEdge P M rows) es → FlowAll P M rows es
 flow_all P M rows [] a = no_more
 flow_all P M rows (edge p st lt ∷ es) a = flow a.0 (flow_all P M rows es a.1)
 
@@ -58,7 +58,7 @@ few_nexts (goto e) = omega arith
 few_nexts (throw r) = omega arith
 
 -- what holds of the first two holds of all of at most two
-first_two : {A : Type 0} (Q : A → Type 0) (xs : List A) → length xs ≤ 2 → ((a : A) → slice_get xs 0 ≡ Some a → Q a) → ((a : A) → slice_get xs 1 ≡ Some a → Q a) → All Q xs
+first_two : {A : Type 0} (Q : A → Type 0) (xs : List A) → length xs ≤ 2 → ((a : A) → slice_get xs 0 ≡ Some a → Q a) → ((a : A) → slice_get xs 1 ≡ Some a → Q a) → AllByRecursion Q xs
 first_two Q [] l f g = tt
 first_two Q (x ∷ []) l f g = (f x refl, tt)
 first_two Q (x ∷ y ∷ []) l f g = (f x refl, (g y refl, tt))

@@ -1,7 +1,7 @@
 -- The flow of a method is monotone: an instruction takes what lies below a row that it takes, and sends less. Assumes nothing.
 use Rattle.std.specs.Prelude.{◌≡◌, ℕ, zero, suc, ◌≤◌, Bool, true, false, cond, List, [], ◌∷◌, length, Some, None, Option, refl}
 use Rattle.std.proofs.Common.{sym, ◌∙◌}
-use Rattle.std.specs.List.{slice_get, AllByRecursion as All}
+use Rattle.std.specs.List.{slice_get, AllByRecursion}
 use Rattle.jinja.specs.declared.ty.Ty.{Ty}
 use Rattle.jinja.specs.declared.instr.Instr.{Instr}
 use Rattle.jinja.specs.declared.program.Handler.{Handler}
@@ -31,18 +31,18 @@ sent_at es e = maybe (slice_get es e) nothing to_node
 
 module _ {P : Program} {M : Owned} where
   -- the edges of a list that are inside and carry rows are lawful, and lower ones send less
-  lawful_at : (n : ℕ) (es : List Edge) (e : ℕ) → All (Inside n) es → All (CarriesRow P M) es → Lawful (InUse P M) n (sent_at es e)
+  lawful_at : (n : ℕ) (es : List Edge) (e : ℕ) → AllByRecursion (Inside n) es → AllByRecursion (CarriesRow P M) es → Lawful (InUse P M) n (sent_at es e)
   lawful_at n [] e a b = nothing_lawful
   lawful_at n (edge p st lt ∷ es) zero a b = row_lawful a.0 b.0
   lawful_at n (edge p st lt ∷ es) (suc e) a b = lawful_at n es e a.1 b.1
 
-below_at : {P : Program} (w : WellFormed P) (M : Owned) {es fs : List Edge} (e : ℕ) → LeEdges P es fs → All (CarriesRow P M) es → All (CarriesRow P M) fs → Below (merge P) (sent_at es e) (sent_at fs e)
+below_at : {P : Program} (w : WellFormed P) (M : Owned) {es fs : List Edge} (e : ℕ) → LeEdges P es fs → AllByRecursion (CarriesRow P M) es → AllByRecursion (CarriesRow P M) fs → Below (merge P) (sent_at es e) (sent_at fs e)
 below_at w M e le_stop a b = nothing_below
 below_at w M zero (le_edge s l k) a b = row_below (le_to_join w a.0 b.0 (le_merged (le_reached s l)))
 below_at w M (suc e) (le_edge s l k) a b = below_at w M e k a.1 b.1
 
 module _ {P : Program} (w : WellFormed P) {M : Owned} where
-  pub taken_sends_rows : {i : Instr} {pc : ℕ} {st : List Ty} {lt : List Cell} → InUse P M (merged (reached st lt)) → (t : Taken P M i pc st lt) → All (CarriesRow P M) t.nexts
+  pub taken_sends_rows : {i : Instr} {pc : ℕ} {st : List Ty} {lt : List Cell} → InUse P M (merged (reached st lt)) → (t : Taken P M i pc st lt) → AllByRecursion (CarriesRow P M) t.nexts
   taken_sends_rows (row_in_use (row s l n) h) t = rule_sends_rows w s l n h t.rule
 
   pub taken_handler_row : {st : List Ty} {lt : List Cell} (x : Handler) → InUse P M (merged (reached st lt)) → Suits P M st x → CarriesRow P M (handler_edge st lt x)

@@ -1,6 +1,6 @@
 -- Registers: what is loaded from one. Assumes nothing.
 use Rattle.std.specs.Prelude.{ℕ, ◌<◌, List, Option}
-use Rattle.std.specs.List.{slice_get, AllByRecursion as All}
+use Rattle.std.specs.List.{slice_get, AllByRecursion}
 use Rattle.jinja.specs.declared.ty.Ty.{Ty}
 use Rattle.jinja.specs.Options.{◌>>=◌}
 use Rattle.jinja.specs.Rows.{Cell}
@@ -14,4 +14,4 @@ loaded lt n = slice_get lt n >>= cell_type
 
 -- each type's number is told from an absent one
 abbrev pub Told : List Ty → Type 0
-Told st = All (λ t. type_number t < absent) st
+Told st = AllByRecursion (λ t. type_number t < absent) st

@@ -1,6 +1,6 @@
 -- What an instruction sends from a row in use is a row in use. Assumes nothing.
 use Rattle.std.specs.Prelude.{◌≡◌, ℕ, ◌≤◌, List, [], ◌∷◌, length, Some}
-use Rattle.std.specs.List.{AllByRecursion as All}
+use Rattle.std.specs.List.{AllByRecursion}
 use Rattle.jinja.specs.declared.ty.Ty.{Ty}
 use Rattle.jinja.specs.declared.instr.Instr.{Instr}
 use Rattle.jinja.specs.declared.program.Handler.{Handler}
@@ -18,17 +18,17 @@ use Rattle.type_rows.specs.Taking.{Suits, handler_edge}
 abbrev pub CarriesRow : Program → Owned → Edge → Type 0
 CarriesRow P M (edge p st lt) = InUse P M (merged (reached st lt))
 
-all_in_use : (P : Program) (M : Owned) (es : List Edge) → All (CarriesAllowed P M) es → All (CarriesRow P M) es
+all_in_use : (P : Program) (M : Owned) (es : List Edge) → AllByRecursion (CarriesAllowed P M) es → AllByRecursion (CarriesRow P M) es
 all_in_use P M [] a = tt
 all_in_use P M (edge p st lt ∷ es) a = (allowed_in_use a.0, all_in_use P M es a.1)
 
 module _ {P : Program} (w : WellFormed P) {M : Owned} where
   -- the successors of an instruction get rows in use
-  pub rule_sends_rows : {i : Instr} {pc : ℕ} {st : List Ty} {lt : List Cell} {es : List Edge} → All (TypeExists P) st → All (CellExists P) lt → length lt ≡ registers M → length st ≤ M.method.height → Rule P M i pc st lt es → All (CarriesRow P M) es
+  pub rule_sends_rows : {i : Instr} {pc : ℕ} {st : List Ty} {lt : List Cell} {es : List Edge} → AllByRecursion (TypeExists P) st → AllByRecursion (CellExists P) lt → length lt ≡ registers M → length st ≤ M.method.height → Rule P M i pc st lt es → AllByRecursion (CarriesRow P M) es
   rule_sends_rows {es = es} s l n h r = all_in_use P M es (rule_sends_allowed w s l n h r)
 
   -- and so does the target of a handler
-  pub handler_sends_row : {st : List Ty} {lt : List Cell} (x : Handler) → All (TypeExists P) st → All (CellExists P) lt → length lt ≡ registers M → Suits P M st x → CarriesRow P M (handler_edge st lt x)
+  pub handler_sends_row : {st : List Ty} {lt : List Cell} (x : Handler) → AllByRecursion (TypeExists P) st → AllByRecursion (CellExists P) lt → length lt ≡ registers M → Suits P M st x → CarriesRow P M (handler_edge st lt x)
   handler_sends_row {st} x s l n k = allowed_in_use (handler_sends_allowed w x st s l n k.exists k.deep k.room)
 
 -- a method begins with a row in use

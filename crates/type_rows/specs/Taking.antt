@@ -1,7 +1,7 @@
 -- An instruction takes a row where its rule holds and its handlers fit, and then all that it sends is in the method. Assumes nothing.
 use Rattle.std.specs.Prelude.{◌≡◌, ℕ, zero, suc, ◌<◌, ◌≤◌, Bool, true, false, cond, ltb, leb, List, [], ◌∷◌, ◌++◌, length, Some, None, Option, nat_le, nat_lt, refl}
 use Rattle.std.proofs.Common.{sym, subst, arith}
-use Rattle.std.specs.List.{slice_get, AllByRecursion as All}
+use Rattle.std.specs.List.{slice_get, AllByRecursion}
 use Rattle.std.proofs.ByRecursion.{All-append}
 use Rattle.std.proofs.lemmas.Bool.{lt-ltb, le-leb, ltb-true, leb-true, and_parts, and_from}
 use Rattle.jinja.specs.declared.ty.Ty.{Ty}
@@ -29,15 +29,15 @@ use Rattle.type_rows.specs.MethodFlow.{all_inside, refuses_row}
 abbrev pub Inside : ℕ → Edge → Type 0
 Inside n (edge p st lt) = p < n
 
-pub inside_found : (n : ℕ) (es : List Edge) → all_inside n es ≡ true → All (Inside n) es
+pub inside_found : (n : ℕ) (es : List Edge) → all_inside n es ≡ true → AllByRecursion (Inside n) es
 inside_found n [] t = tt
 inside_found n (edge p st lt ∷ es) t = let a = and_parts _ _ t in (ltb-true _ _ a.0, inside_found n es a.1)
 
-pub inside_tested : (n : ℕ) (es : List Edge) → All (Inside n) es → all_inside n es ≡ true
+pub inside_tested : (n : ℕ) (es : List Edge) → AllByRecursion (Inside n) es → all_inside n es ≡ true
 inside_tested n [] a = refl
 inside_tested n (edge p st lt ∷ es) a = and_from _ _ (lt-ltb _ _ a.0) (inside_tested n es a.1)
 
-pub all_parts : {A : Type 0} (Q : A → Type 0) (xs ys : List A) → All Q (xs ++ ys) → All Q xs × All Q ys
+pub all_parts : {A : Type 0} (Q : A → Type 0) (xs ys : List A) → AllByRecursion Q (xs ++ ys) → AllByRecursion Q xs × AllByRecursion Q ys
 all_parts Q [] ys a = (tt, a)
 all_parts Q (x ∷ xs) ys a = let r = all_parts Q xs ys a.1 in ((a.0, r.0), r.1)
 
@@ -52,18 +52,18 @@ abbrev pub handler_edge : List Ty → List Cell → Handler → Edge
 handler_edge st lt x = edge x.target (Class x.class ∷ lowest x.depth st) lt
 
 module _ {P : Program} {M : Owned} (i : Instr) (pc : ℕ) {st : List Ty} {lt : List Cell} (Q : Edge → Type 0) where
-  one_found : {es : List Edge} (x : Handler) (o : Option (List Edge)) (b : Bool) → cond b (is_class P x.class >> (leb x.depth (length st) >> (ltb x.depth M.method.height >> (o >>= λ es. Some (handler_edge st lt x ∷ es))))) o ≡ Some es → All Q es → (hs : List Edge) × (o ≡ Some hs) × All Q hs × (b ≡ true → Suits P M st x × Q (handler_edge st lt x))
+  one_found : {es : List Edge} (x : Handler) (o : Option (List Edge)) (b : Bool) → cond b (is_class P x.class >> (leb x.depth (length st) >> (ltb x.depth M.method.height >> (o >>= λ es. Some (handler_edge st lt x ∷ es))))) o ≡ Some es → AllByRecursion Q es → (hs : List Edge) × (o ≡ Some hs) × AllByRecursion Q hs × (b ≡ true → Suits P M st x × Q (handler_edge st lt x))
   one_found {es} x o true e a =
       let b = tested (is_class P x.class) _ e in
       let d = tested (nat_le x.depth (length st)) _ b.1 in
       let f = tested (nat_lt x.depth M.method.height) _ d.1 in
       let g = passed o _ f.1 in
-      let n : All Q (handler_edge st lt x ∷ g.0) = subst (All Q) (sym (some_inj g.2)) a in
+      let n : AllByRecursion Q (handler_edge st lt x ∷ g.0) = subst (AllByRecursion Q) (sym (some_inj g.2)) a in
       (g.0, g.1, n.1, λ t. (record { exists = ltb-true _ _ b.0; deep = leb-true _ _ d.0; room = ltb-true _ _ f.0 }, n.0))
   one_found {es} x o false e a = (es, e, a, λ t. absurd (false_true t))
 
   -- where the handlers send, each relevant one suits
-  pub handlers_suit : (xs : List Handler) (es : List Edge) → send_handlers P M xs i pc st lt ≡ Some es → All Q es → (j : ℕ) (x : Handler) → slice_get xs j ≡ Some x → is_relevant P i pc x ≡ true → Suits P M st x × Q (handler_edge st lt x)
+  pub handlers_suit : (xs : List Handler) (es : List Edge) → send_handlers P M xs i pc st lt ≡ Some es → AllByRecursion Q es → (j : ℕ) (x : Handler) → slice_get xs j ≡ Some x → is_relevant P i pc x ≡ true → Suits P M st x × Q (handler_edge st lt x)
   handlers_suit [] es e a j x f r = absurd (conflict f)
   handlers_suit (y ∷ xs) es e a zero x f r =
       let k = one_found y (send_handlers P M xs i pc st lt) (is_relevant P i pc y) e a in
@@ -72,12 +72,12 @@ module _ {P : Program} {M : Owned} (i : Instr) (pc : ℕ) {st : List Ty} {lt : L
       let k = one_found y (send_handlers P M xs i pc st lt) (is_relevant P i pc y) e a in
       handlers_suit xs k.0 k.1 k.2 j x f r
 
-  one_sent : {hs : List Edge} (x : Handler) (o : Option (List Edge)) (b : Bool) → o ≡ Some hs → All Q hs → (b ≡ true → Suits P M st x × Q (handler_edge st lt x)) → (es : List Edge) × (cond b (is_class P x.class >> (leb x.depth (length st) >> (ltb x.depth M.method.height >> (o >>= λ es. Some (handler_edge st lt x ∷ es))))) o ≡ Some es) × All Q es
+  one_sent : {hs : List Edge} (x : Handler) (o : Option (List Edge)) (b : Bool) → o ≡ Some hs → AllByRecursion Q hs → (b ≡ true → Suits P M st x × Q (handler_edge st lt x)) → (es : List Edge) × (cond b (is_class P x.class >> (leb x.depth (length st) >> (ltb x.depth M.method.height >> (o >>= λ es. Some (handler_edge st lt x ∷ es))))) o ≡ Some es) × AllByRecursion Q es
   one_sent {hs} x o true e a c = let k = c refl in (handler_edge st lt x ∷ hs, rw (lt-ltb _ _ k.0.exists, le-leb _ _ k.0.deep, lt-ltb _ _ k.0.room, e), (k.1, a))
   one_sent {hs} x o false e a c = (hs, e, a)
 
   -- where each relevant one suits, the handlers send
-  pub handlers_send : (xs : List Handler) → ((j : ℕ) (x : Handler) → slice_get xs j ≡ Some x → is_relevant P i pc x ≡ true → Suits P M st x × Q (handler_edge st lt x)) → (es : List Edge) × (send_handlers P M xs i pc st lt ≡ Some es) × All Q es
+  pub handlers_send : (xs : List Handler) → ((j : ℕ) (x : Handler) → slice_get xs j ≡ Some x → is_relevant P i pc x ≡ true → Suits P M st x × Q (handler_edge st lt x)) → (es : List Edge) × (send_handlers P M xs i pc st lt ≡ Some es) × AllByRecursion Q es
   handlers_send [] c = ([], refl, tt)
   handlers_send (x ∷ xs) c =
       let r = handlers_send xs (λ j y e. c (suc j) y e) in
@@ -87,7 +87,7 @@ module _ {P : Program} {M : Owned} (i : Instr) (pc : ℕ) {st : List Ty} {lt : L
 pub record Taken (P : Program) (M : Owned) (i : Instr) (pc : ℕ) (st : List Ty) (lt : List Cell) : Type 0 where
   pub nexts : List Edge
   pub rule : Rule P M i pc st lt nexts
-  pub inside : All (Inside (length M.method.code)) nexts
+  pub inside : AllByRecursion (Inside (length M.method.code)) nexts
   pub caught : (j : ℕ) (x : Handler) → slice_get M.method.handlers j ≡ Some x → is_relevant P i pc x ≡ true → Suits P M st x × Inside (length M.method.code) (handler_edge st lt x)
 
 not_refused : (n : ℕ) (o : Option (List Edge)) → maybe o true (λ es. cond (all_inside n es) false true) ≡ false → (es : List Edge) × (o ≡ Some es) × (all_inside n es ≡ true)
@@ -98,7 +98,7 @@ not_refused n (Some es) e = (es, refl, go (all_inside n es) e)
     go true e = refl
     go false e = absurd (false_true (sym e))
 
-lower_inside : {P : Program} (n : ℕ) {es fs : List Edge} → LeEdges P es fs → All (Inside n) fs → All (Inside n) es
+lower_inside : {P : Program} (n : ℕ) {es fs : List Edge} → LeEdges P es fs → AllByRecursion (Inside n) fs → AllByRecursion (Inside n) es
 lower_inside n le_stop a = tt
 lower_inside n (le_edge s l k) a = (a.0, lower_inside n k a.1)
 
@@ -109,7 +109,7 @@ module _ {P : Program} (w : WellFormed P) {M : Owned} where
       let a = not_refused n (sends P M i pc (reached st lt)) e in
       let t = passed (transfer P M i pc st lt) _ a.1 in
       let h = passed (send_handlers P M M.method.handlers i pc st lt) _ t.2 in
-      let p = all_parts (Inside n) t.0 h.0 (subst (All (Inside n)) (sym (some_inj h.2)) (inside_found n a.0 a.2)) in
+      let p = all_parts (Inside n) t.0 h.0 (subst (AllByRecursion (Inside n)) (sym (some_inj h.2)) (inside_found n a.0 a.2)) in
       record {
         nexts = t.0;
         rule = transfer_sound w i pc st lt t.1;

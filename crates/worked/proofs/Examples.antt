@@ -1,6 +1,6 @@
 -- The worked examples stand: files, sweeps and runs by computing. Assumes nothing.
 use Rattle.std.proofs.Common.{◌≡◌, ℕ, zero, suc, Bool, true, false, ◌&&◌, ltb, List, [], ◌∷◌, map, Some, None, Ok, Err, refl, subst, arith}
-use Rattle.std.specs.List.{slice_get, AllByRecursion as All}
+use Rattle.std.specs.List.{slice_get, AllByRecursion}
 use Rattle.std.specs.Int.{int_wrap}
 use Rattle.std.proofs.lemmas.Bool.{and_parts, ltb-true}
 use Rattle.number.specs.declared.fault.NumberFault.TheVariants.{Cut, Padded}
@@ -60,7 +60,7 @@ kept file {P} b read = (read_was_written file P (bytes_found file b) read).1
 -- what stands of a file that is accepted, of one that is read and not typable, and of one that is not read
 module _ {file : List ℕ} (b : are_bytes file ≡ true) where
   module _ {P : Program} (read : parse file ≡ Ok P) where
-    accepts : (ts : List (List Row)) {rs : List Run} → are_least P (methods_from 0 (table P)) ts ≡ true → All (Comes P) rs → Stands (record { file = file; program = P; verdict = accepted ts; runs = rs })
+    accepts : (ts : List (List Row)) {rs : List Run} → are_least P (methods_from 0 (table P)) ts ≡ true → AllByRecursion (Comes P) rs → Stands (record { file = file; program = P; verdict = accepted ts; runs = rs })
     accepts ts e rs = record { bytes = bytes_found file b; holds = rw read; kept = kept file b read; loads = rw read (all_least ts (kept file b read) e); runs = rs }
 
     rejects : {M : Owned} → method_at P 0 ≡ Some M → swept P M ≡ None → Stands (record { file = file; program = P; verdict = refused 11 0; runs = [] })

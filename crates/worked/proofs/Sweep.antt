@@ -1,6 +1,6 @@
 -- One sweep over a method's code from its first row: every well-typing takes it, and lies above where it ends. Assumes nothing.
 use Rattle.std.proofs.Common.{◌≡◌, ℕ, zero, suc, ◌<◌, Bool, true, false, cond, ◌&&◌, eqb, ltb, List, [], ◌∷◌, length, Some, None, Option, sym, refl, ◌∙◌, subst}
-use Rattle.std.specs.List.{slice_get, AllByRecursion as All}
+use Rattle.std.specs.List.{slice_get, AllByRecursion}
 use Rattle.std.proofs.lemmas.Bool.{and_parts, eqb-true, lt-ltb}
 use Rattle.jinja.specs.declared.instr.Instr.{Instr}
 use Rattle.jinja.specs.Options.{◌>>=◌, ◌>>◌}
@@ -70,7 +70,7 @@ module _ {P : Program} (w : WellFormed P) {M : Owned} {other : Table} (typing : 
     comes : o ≡ Some rows
     below : Below rows
 
-  pour_below : (T : Table) (es : List Edge) → Below T → All (CarriesAllowed P M) es → FlowAll P M other es → ComesBelow (pour P M T es)
+  pour_below : (T : Table) (es : List Edge) → Below T → AllByRecursion (CarriesAllowed P M) es → FlowAll P M other es → ComesBelow (pour P M T es)
   pour_below T [] b fine f = record { rows = T; comes = refl; below = b }
   pour_below T (edge p st lt ∷ es) b fine f =
       let inside = (flows_first w f).inside in

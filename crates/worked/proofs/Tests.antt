@@ -1,6 +1,6 @@
 -- The order of rows, the rows of a method and well-typings, each by a test that computes. Assumes nothing.
 use Rattle.std.proofs.Common.{◌≡◌, ℕ, zero, suc, ◌<◌, Bool, true, false, ◌&&◌, eqb, ltb, List, [], ◌∷◌, length, Some, None, Option, sym, refl, subst, ⊎_elim, arith}
-use Rattle.std.specs.List.{slice_get, AllByRecursion as All}
+use Rattle.std.specs.List.{slice_get, AllByRecursion}
 use Rattle.std.proofs.lemmas.Bool.{and_parts, cases_eq, eqb-true, ltb-true}
 use Rattle.jinja.specs.declared.ty.Ty.{Ty}
 use Rattle.jinja.specs.declared.instr.Instr.{Instr}
@@ -30,7 +30,7 @@ at_place test (suc n) pc e l =
     ⊎_elim (λ (q : pc ≡ n). subst (λ j. test j ≡ true) (sym q) p.1) (λ (q : pc ≡ n → ⊥). at_place test n pc p.0 (omega arith)) (cases_eq pc n)
 
 -- each item passes
-each_found : {A : Type 0} (test : A → Bool) (xs : List A) → each test xs ≡ true → All (λ x. test x ≡ true) xs
+each_found : {A : Type 0} (test : A → Bool) (xs : List A) → each test xs ≡ true → AllByRecursion (λ x. test x ≡ true) xs
 each_found test [] e = tt
 each_found test (x ∷ xs) e = let p = and_parts (test x) _ e in (p.0, each_found test xs p.1)
 
@@ -95,7 +95,7 @@ module _ {P : Program} (w : WellFormed P) where
   row_le_found (reached s l) (reached s' l') e =
       let p = and_parts (pairs (type_le P) s s') _ e in le_reached (pairs_found _ (le_found w) s s' p.0) (pairs_found _ cell_le_found l l' p.1)
 
-  cells_exist : (cs : List Cell) → All (λ c. cell_exists P c ≡ true) cs → All (CellExists P) cs
+  cells_exist : (cs : List Cell) → AllByRecursion (λ c. cell_exists P c ≡ true) cs → AllByRecursion (CellExists P) cs
   cells_exist [] q = tt
   cells_exist (usable t ∷ cs) q = (q.0, cells_exist cs q.1)
   cells_exist (unusable ∷ cs) q = (tt, cells_exist cs q.1)

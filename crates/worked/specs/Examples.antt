@@ -1,6 +1,6 @@
 -- The worked examples in one table, and the theorem that they stand. Bytes are written in decimal. Assumes nothing.
 use Rattle.std.specs.Prelude.{ℕ, true, false, List, [], ◌∷◌, ◌++◌, take, drop, pos, negsuc, slice_set}
-use Rattle.std.specs.List.{AllByRecursion as All}
+use Rattle.std.specs.List.{AllByRecursion}
 use Rattle.heap.specs.declared.value.Value.{Value}
 use Rattle.heap.specs.declared.value.Value.TheVariants as value
 use Rattle.jinja.specs.declared.answer.Phase.TheVariants.{Running, Finished}
@@ -100,4 +100,4 @@ table_of_examples =
 
 -- loading and running each comes to what the table says
 abbrev pub ExamplesStand : Type 0
-ExamplesStand = All Stands table_of_examples
+ExamplesStand = AllByRecursion Stands table_of_examples

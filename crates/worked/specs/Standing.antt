@@ -1,6 +1,6 @@
 -- What an example says of a file, and when it stands: what loading answers, and what runs come to. Assumes nothing.
 use Rattle.std.specs.Prelude.{◌≡◌, ℕ, suc, ◌<◌, true, List, [], ◌∷◌, ◌++◌, map, replicate, Some, Ok, Err, Result}
-use Rattle.std.specs.List.{slice_get, AllByRecursion as All}
+use Rattle.std.specs.List.{slice_get, AllByRecursion}
 use Rattle.number.specs.Laws.{AllBytes}
 use Rattle.heap.specs.declared.value.Value.{Value}
 use Rattle.slot_heap.specs.Slots.{slot_line}
@@ -97,4 +97,4 @@ pub record Stands (x : Example) : Type 0 where
   pub holds : filled (parse x.file) ≡ x.program
   pub kept : keeps x.program ≡ true
   pub loads : Answers (parse x.file) x.verdict
-  pub runs : All (Comes x.program) x.runs
+  pub runs : AllByRecursion (Comes x.program) x.runs
