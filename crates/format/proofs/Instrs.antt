@@ -88,9 +88,9 @@ module _ (file : List ℕ) (small : AllBytes file) where
       let w = then_ok (any_at file r) _ b q h in
       let t = (any_wrote file small r w.1 w.0 w.2).1 in
       let at : (n : ℕ) → w.0 ≡ n → Stands file p w.1 (bytes 2 ++ bytes n) = λ n e. both file p r w.1 (bytes 2) (bytes n) s (rw e at t) in
-      let Boolean-wrote : Bool → ℕ → Type 0 = λ b q. LiteralWrote p (Boolean b) q in
-      choose w.0 0 w.3 (λ k e. given Boolean-wrote false b w.1 q e (refl, at 0 k)) (λ h.
-      choose w.0 1 h (λ k e. given Boolean-wrote true b w.1 q e (refl, at 1 k)) (λ h.
+      let Boolean_wrote : Bool → ℕ → Type 0 = λ b q. LiteralWrote p (Boolean b) q in
+      choose w.0 0 w.3 (λ k e. given Boolean_wrote false b w.1 q e (refl, at 0 k)) (λ h.
+      choose w.0 1 h (λ k e. given Boolean_wrote true b w.1 q e (refl, at 1 k)) (λ h.
       absurd (ok_not_err (sym h))))
 
   integer_wrote : (p r q n : ℕ) → Stands file p r (bytes 3) → any_at file r ≡ Ok (n, q) → LiteralWrote p (Integer (signed n)) q

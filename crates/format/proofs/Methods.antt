@@ -122,22 +122,22 @@ module _ (file : List ℕ) where
         → (method_keeps n before s mine m ≡ true) × Stands file p q (method_bytes m)
     unfolding method_at
     method_wrote n before s mine p q m e =
-        let code-before = program_code before + count_code mine in
-        let handlers-before = program_handlers before + count_handlers mine in
+        let code_before = program_code before + count_code mine in
+        let handlers_before = program_handlers before + count_handlers mine in
         then_by (name_at file method_name mine p) _ m q e (λ name r₁ e₁ f₁.
         then_by (params_at file n r₁) _ m q f₁ (λ params r₂ e₂ f₂.
         then_by (result_at file n before s name params r₂) _ m q f₂ (λ result r₃ e₃ f₃.
         then_by (at_most file max_height r₃) _ m q f₃ (λ height r₄ e₄ f₄.
         then_by (extras_at file (length params) r₄) _ m q f₄ (λ extras r₅ e₅ f₅.
-        then_by (code_at file code-before r₅) _ m q f₅ (λ code r₆ e₆ f₆.
-        then_by (handlers_at file handlers-before r₆) _ m q f₆ (λ handlers r₇ e₇ f₇.
+        then_by (code_at file code_before r₅) _ m q f₅ (λ code r₆ e₆ f₆.
+        then_by (handlers_at file handlers_before r₆) _ m q f₆ (λ handlers r₇ e₇ f₇.
         let s₁ = name_wrote file small method_name mine p r₁ name e₁ in
         let s₂ = params_wrote n r₁ r₂ params e₂ in
         let s₃ = result_wrote n before s name params result r₂ r₃ e₃ in
         let s₄ = at_most_wrote file small max_height r₃ r₄ height e₄ in
         let s₅ = extras_wrote (length params) extras r₄ r₅ e₅ in
-        let s₆ = code_wrote code-before code r₅ r₆ e₆ in
-        let s₇ = handlers_wrote handlers-before handlers r₆ r₇ e₇ in
+        let s₆ = code_wrote code_before code r₅ r₆ e₆ in
+        let s₇ = handlers_wrote handlers_before handlers r₆ r₇ e₇ in
         let made : MethodDecl = record { name = name; params = params; result = result; height = height; extras = extras; code = code; handlers = handlers } in
         given (λ m q. (method_keeps n before s mine m ≡ true) × Stands file p q (method_bytes m)) made m r₇ q f₇ (
           kept_method n before s mine made (record { name = s₁.0; fresh = s₁.1; few_params = s₂.0; params = s₂.1; result = s₃.0; override = s₃.1; height = s₄.0; registers = s₅.0; code_fits = s₆.0; code = s₆.1; handlers_fit = s₇.0; handlers = s₇.1 }),

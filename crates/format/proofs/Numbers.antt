@@ -5,7 +5,7 @@ use Rattle.std.proofs.lemmas.Bool.Decides.{nat_tests}
 use Rattle.number.specs.Laws.{AllBytes}
 use Rattle.number.specs.Numbers.{number_limit, bytes}
 use Rattle.number.specs.declared.fault.NumberFault.{NumberFault}
-use Rattle.number.proofs.Law.{number_reads, read as number-wrote}
+use Rattle.number.proofs.Law.{number_reads, read as number_wrote}
 use Rattle.jinja.specs.declared.ty.Ty.{Ty}
 use Rattle.jinja.specs.declared.ty.Ty.TheVariants.{Void, Boolean, Integer, NullType, Class}
 use Rattle.jinja.specs.Types.{type_number, type_of_number, type_exists}
@@ -63,7 +63,7 @@ module _ (file : List ℕ) where
 
   module _ (small : AllBytes file) where
     pub any_wrote : (p q n : ℕ) → any_at file p ≡ Ok (n, q) → (n < number_limit) × Stands file p q (bytes n)
-    any_wrote p q n e = let w = number-wrote file p n q small (lifted_ok _ _ e) in (w.0, (w.1, w.2))
+    any_wrote p q n e = let w = number_wrote file p n q small (lifted_ok _ _ e) in (w.0, (w.1, w.2))
 
     pub at_most_wrote : (most p q n : ℕ) → at_most file most p ≡ Ok (n, q) → (leb n most ≡ true) × Stands file p q (bytes n)
     at_most_wrote most p q n e =

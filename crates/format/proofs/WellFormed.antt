@@ -130,12 +130,12 @@ module _ (P : Program) (kept : keeps P ≡ true) where
       elim (whose P c f.declared) [
         | inl h ↦ absurd (conflict (subst (λ (d : ClassDecl). slice_get d.methods f.index ≡ Some f.method) h f.stands))
         | inr h ↦
-            (let kept-m = kept_method_at P kept h.0 f.index h.2 f.stands in
+            (let kept_m = kept_method_at P kept h.0 f.index h.2 f.stands in
             let s : superclass_of P c ≡ d.superclass = ap (λ o. maybe o 0 (λ (d : ClassDecl). d.superclass)) f.declared in
             let above = inherited_front h.0 d.superclass m (super_below h.0 h.2) (rw s at up) e' in
-            let over : override_keeps (take h.0 P) d.superclass m f.method.params f.method.result ≡ true = rw f.name at kept-m.override in
-            let N-is : N.method ≡ f.method = ap (λ (o : Owned). o.method) (some_inj (sym e ∙ f.numbered)) in
-            rw N-is (rw above at over))
+            let over : override_keeps (take h.0 P) d.superclass m f.method.params f.method.result ≡ true = rw f.name at kept_m.override in
+            let N_is : N.method ≡ f.method = ap (λ (o : Owned). o.method) (some_inj (sym e ∙ f.numbered)) in
+            rw N_is (rw above at over))
       ]
 
 pub kept_is_well_formed : KeptIsWellFormed

@@ -46,14 +46,14 @@ module _ {P : Program} {Φ : ℕ → Table} (w : WellFormed P) (typed : WellTypi
       let p = pairs_taken n s nil e in
       bind _ p.are (deref _ _ p.receiver_is
       (raises w typed (Invoke m n) null_pointer_at now.exceptions.at_0 now handled (λ d l. by_invoke))
-      (λ a c is-a cl below.
+      (λ a c is_a cl below.
       let o = (inheritance P w).methods m below seen callee in
       let N' = o.owned in
       let fits : FitAll P h p.args N'.method.params = all_up p.args_are (overrides_takes N'.method N.method o.related args) in
       let many : length N'.method.params ≡ n = let l = pairs_length fits in let l' = taken_length n stk [] p.are in omega arith in
       bind _ cl (bind _ o.seen (bind _ o.stands (guard (fit_all_tested w fits) (guard (lt-ltb _ _ (shorter _ p.left_are room)) (either (ltb (length (frame k pc stk regs ∷ rest)) frame_limit)
       (λ t. good_goes now.objects now.exceptions (stand (opened_fits w typed m cl o.seen o.stands fits).2
-      (caller now.frame_fits (record { name = m; count = n; address = a; class = c; callee = N'; args = p.args; left = p.left; at_invoke = is; holds = rw is-a at p.are; class_is = cl; seen = o.seen; callee_is = o.stands; many = many }) now.below)))
+      (caller now.frame_fits (record { name = m; count = n; address = a; class = c; callee = N'; args = p.args; left = p.left; at_invoke = is; holds = rw is_a at p.are; class_is = cl; seen = o.seen; callee_is = o.stands; many = many }) now.below)))
       (λ t. good_full))))))))
 
 addr_inv : {P : Program} {h : Meaning} {a d : ℕ} → Fits P h (value.Addr a) (Class d) → (c : ℕ) × (class_of h a ≡ Some c) × AtOrBelow P c d

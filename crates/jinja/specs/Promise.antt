@@ -22,8 +22,8 @@ pub data FramesFit (P : Program) (Φ : ℕ → Table) (h : Meaning) : List Frame
   frames_stand : {b : ℕ} {fs : List Frame} → Exceptions h → Stand P Φ h b fs → FramesFit P Φ h fs
 
 -- a line's use is what the objects made cost on it, and is within its total
-pub record Charged (P : Program) (h : Meaning) (made-classes : List ℕ) (l : ChargeLine) : Type 0 where
-  pub use_is_cost : used l h.objects ≡ cost_of_made P l made-classes
+pub record Charged (P : Program) (h : Meaning) (made_classes : List ℕ) (l : ChargeLine) : Type 0 where
+  pub use_is_cost : used l h.objects ≡ cost_of_made P l made_classes
   pub within_total : used l h.objects ≤ l.total
 
 -- of the state that a history leaves, and of what it answered; Φ are the least well-typings

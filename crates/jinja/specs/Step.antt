@@ -1,5 +1,5 @@
 -- One step of the machine: first the checks, then the effect. A check that fails leaves no answer. Assumes nothing.
-use Rattle.std.specs.Prelude.{ℕ, suc, Bool, cond, ◌&&◌, ltb, leb, List, [], ◌∷◌, ◌++◌, length, replicate, ℤ, ◌+ℤ◌, Some, None, Option, nat_le, nat_lt, slice_set}
+use Rattle.std.specs.Prelude.{ℕ, suc, Bool, cond, ◌&&◌, List, [], ◌∷◌, ◌++◌, length, replicate, ℤ, ◌+ℤ◌, Some, None, Option, nat_le, nat_lt, slice_set}
 use Rattle.std.specs.List.{slice_get}
 use Rattle.std.specs.Int.{int_wrap, w32}
 use Rattle.heap.specs.declared.value.Value.{Value}
@@ -98,7 +98,7 @@ module _ (P : Program) where
   abbrev pub catch : Meaning → ℕ → Owned → Option Handler → Frame → List Frame → Option Next → Option Next
   catch h a M None f rest below = below
   catch h a M (Some x) f rest below =
-      leb x.depth (length f.stack) >> (ltb x.depth M.method.height >> (ltb x.target (length M.method.code) >>
+      nat_le x.depth (length f.stack) >> (nat_lt x.depth M.method.height >> (nat_lt x.target (length M.method.code) >>
       Some (goes h (at_place f x.target (value.Addr a ∷ lowest x.depth f.stack) ∷ rest))))
 
   -- the object at a, of class c, is thrown: handlers are searched frame by frame from the top, in table order
@@ -122,7 +122,7 @@ module _ (P : Program) where
 
   -- Putfield: another value at the field's place
   abbrev pub put : Meaning → FieldPlace → ℕ → ℕ → Value → Frame → List Value → List Frame → Option Next
-  put h x c a v f stk rest = slice_get h.objects a >>= λ o. at_or_below P o.class c >> (ltb x.place (length o.row) >> going (with_value h a x.place v) f stk rest)
+  put h x c a v f stk rest = slice_get h.objects a >>= λ o. at_or_below P o.class c >> (nat_lt x.place (length o.row) >> going (with_value h a x.place v) f stk rest)
 
   -- Checkcast: the same stack, or ClassCast
   abbrev pub cast : Meaning → ℕ → ℕ → Frame → List Frame → Option Next
@@ -142,7 +142,7 @@ module _ (P : Program) where
   -- one instruction of the method M in its frame f, above the frames rest
   abbrev pub exec : Instr → Meaning → Owned → Frame → List Frame → Option Next
   exec (Load n) h M f rest = slice_get f.registers n >>= λ v. can_push M f.stack >> going h f (v ∷ f.stack) rest
-  exec (Store n) h M f rest = top_of f.stack >>= λ p. ltb n (length f.registers) >> elim p [ top v stk ↦ going h (with_register f n v) stk rest ]
+  exec (Store n) h M f rest = top_of f.stack >>= λ p. nat_lt n (length f.registers) >> elim p [ top v stk ↦ going h (with_register f n v) stk rest ]
   exec (Push v) h M f rest = can_push M f.stack >> going h f (literal_value v ∷ f.stack) rest
   exec Pop h M f rest = top_of f.stack >>= λ p. elim p [ top v stk ↦ going h f stk rest ]
   exec (New c) h M f rest = is_class P c >> (can_push M f.stack >> make h c f rest)
@@ -159,8 +159,8 @@ module _ (P : Program) where
       two_of f.stack >>= λ p. elim p [ two v w stk ↦ as_integer v >>= λ a. as_integer w >>= λ b. can_push M stk >> going h f (value.Int (int_wrap w32 (b +ℤ a)) ∷ stk) rest ]
   exec CmpEq h M f rest = two_of f.stack >>= λ p. elim p [ two v w stk ↦ can_push M stk >> going h f (value.Bool (same_value w v) ∷ stk) rest ]
   exec (IfFalse z) h M f rest =
-      top_of f.stack >>= λ p. jump f.pc z >>= λ q. ltb q (length M.method.code) >> elim p [ top v stk ↦ as_boolean v >>= λ b. Some (goes h (at_place f (cond b (suc f.pc) q) stk ∷ rest)) ]
-  exec (Goto z) h M f rest = jump f.pc z >>= λ q. ltb q (length M.method.code) >> Some (goes h (at_place f q f.stack ∷ rest))
+      top_of f.stack >>= λ p. jump f.pc z >>= λ q. nat_lt q (length M.method.code) >> elim p [ top v stk ↦ as_boolean v >>= λ b. Some (goes h (at_place f (cond b (suc f.pc) q) stk ∷ rest)) ]
+  exec (Goto z) h M f rest = jump f.pc z >>= λ q. nat_lt q (length M.method.code) >> Some (goes h (at_place f q f.stack ∷ rest))
   exec Throw h M f rest = top_of f.stack >>= λ p. elim p [ top r stk ↦ on_reference r (raise h null_pointer_at (f ∷ rest)) (λ a. raise h a (f ∷ rest)) ]
 
   -- the instruction of the top frame

@@ -1,5 +1,5 @@
 -- The rules as a function that runs: what an instruction sends from its row, or nothing where a need fails. Assumes nothing.
-use Rattle.std.specs.Prelude.{ℕ, suc, Bool, true, false, cond, ◌&&◌, ◌||◌, ltb, leb, List, [], ◌∷◌, ◌++◌, length, Some, None, Option, nat_le, nat_lt, slice_set}
+use Rattle.std.specs.Prelude.{ℕ, suc, Bool, true, false, cond, ◌&&◌, ◌||◌, List, [], ◌∷◌, ◌++◌, length, Some, None, Option, nat_le, nat_lt, slice_set}
 use Rattle.std.specs.List.{slice_get}
 use Rattle.jinja.specs.declared.ty.Ty.{Ty}
 use Rattle.jinja.specs.declared.ty.Ty.TheVariants.{Void, Boolean, Integer, NullType, Class}
@@ -96,7 +96,7 @@ module _ (P : Program) (M : Owned) where
   -- what goes to the successors
   abbrev pub transfer : Instr → ℕ → List Ty → List Cell → Option (List Edge)
   transfer (Load n) pc st lt = slice_get lt n >>= λ c. cell_type c >>= λ t. can_push M st >> Some (next pc (t ∷ st) lt)
-  transfer (Store n) pc st lt = top_of st >>= λ p. ltb n (length lt) >> elim p [ top t rest ↦ Some (next pc rest (slice_set lt n (usable t))) ]
+  transfer (Store n) pc st lt = top_of st >>= λ p. nat_lt n (length lt) >> elim p [ top t rest ↦ Some (next pc rest (slice_set lt n (usable t))) ]
   transfer (Push v) pc st lt = can_push M st >> Some (next pc (literal_type v ∷ st) lt)
   transfer Pop pc st lt = top_of st >>= λ p. elim p [ top t rest ↦ Some (next pc rest lt) ]
   transfer (New c) pc st lt = is_class P c >> (can_push M st >> Some (next pc (Class c ∷ st) lt))
@@ -115,7 +115,7 @@ module _ (P : Program) (M : Owned) where
   abbrev pub send_handler : Handler → Instr → ℕ → List Ty → List Cell → Option (List Edge) → Option (List Edge)
   send_handler x i pc st lt o =
       cond (is_relevant P i pc x)
-      (is_class P x.class >> (leb x.depth (length st) >> (ltb x.depth M.method.height >> (o >>= λ es. Some (edge x.target (Class x.class ∷ lowest x.depth st) lt ∷ es)))))
+      (is_class P x.class >> (nat_le x.depth (length st) >> (nat_lt x.depth M.method.height >> (o >>= λ es. Some (edge x.target (Class x.class ∷ lowest x.depth st) lt ∷ es)))))
       o
 
   -- what goes to the targets of the relevant handlers

@@ -2,7 +2,7 @@
 ghost use Rattle.std.specs.Prelude.{◌≡◌, ℕ};
 ghost use Rattle.number.specs.Numbers.{Gave};
 ghost use Rattle.number.specs.Places.{file_of, place_of};
-ghost use Rattle.format.specs.Rules.{unused as unused-in};
+ghost use Rattle.format.specs.Rules.{unused as unused_in};
 ghost use Rattle.format.specs.Parse.{name_at};
 
 use crate::items::read_operand;
@@ -37,7 +37,7 @@ impl Named for MethodRec {
 
 // Whether no item has that name.
 fn unused<T: Named>(name: u8, items: &[T]) -> bool
-    ensures { result ≡ unused-in T.Named.called name items.now }
+    ensures { result ≡ unused_in T.Named.called name items.now }
 {
     for x in items {
         if x.name() == name {

@@ -107,11 +107,11 @@ module _ (t : Tables) (i k : ℕ) where
         let ms = part (get_or t.classes i d).methods (method_views t) in
         let owned = owned_by (4 + i) ms in
         let j = k - count_methods (take i (program_of t)) in
-        let in-own : j < length ms = omega (arith, own_length, first_here) in
-        let in-owned : j < length owned = omega (arith, length_owned (4 + i) ms) in
+        let in_own : j < length ms = omega (arith, own_length, first_here) in
+        let in_owned : j < length owned = omega (arith, length_owned (4 + i) ms) in
         ap (λ ds. owner_of (slice_get (methods_from (4 + i) ds) j)) rest
-        ∙ ap owner_of (nth_append_left owned (methods_from (suc (4 + i)) (drop (i + 1) (program_of t))) j in-owned)
-        ∙ owner_map (4 + i) ms j in-own
+        ∙ ap owner_of (nth_append_left owned (methods_from (suc (4 + i)) (drop (i + 1) (program_of t))) j in_owned)
+        ∙ owner_map (4 + i) ms j in_own
 
     pub none_before : (get_or t.classes i d).methods.first + (get_or t.classes i d).methods.count ≤ k → count_methods (take (i + 1) (program_of t)) ≤ k
     none_before g = omega (arith, count_more)

@@ -36,8 +36,8 @@ module _ (P : Program) (kept : keeps P ≡ true) where
       go : (o : Option ClassDecl) → slice_get P i ≡ o → maybe o None (λ d. slice_get d.methods j) ≡ Some m → Limited m
       go None q e = absurd (conflict e)
       go (Some d) q e =
-          let keeps-it = kept_method_at P kept i j q e in
-          record { code = (code_fits _ (length m.code) keeps-it.code_fits).1; height = leb-true _ _ keeps-it.height; registers = leb-true _ _ keeps-it.registers }
+          let keeps_it = kept_method_at P kept i j q e in
+          record { code = (code_fits _ (length m.code) keeps_it.code_fits).1; height = leb-true _ _ keeps_it.height; registers = leb-true _ _ keeps_it.registers }
 
   pub method_limited : (k : ℕ) {N : Owned} → method_at P k ≡ Some N → Limited N.method
   unfolding method_at

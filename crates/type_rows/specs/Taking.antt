@@ -1,5 +1,5 @@
 -- An instruction takes a row where its rule holds and its handlers fit, and then all that it sends is in the method. Assumes nothing.
-use Rattle.std.specs.Prelude.{◌≡◌, ℕ, zero, suc, ◌<◌, ◌≤◌, Bool, true, false, cond, ltb, leb, List, [], ◌∷◌, ◌++◌, length, Some, None, Option, nat_le, nat_lt, refl}
+use Rattle.std.specs.Prelude.{◌≡◌, ℕ, zero, suc, ◌<◌, ◌≤◌, Bool, true, false, cond, List, [], ◌∷◌, ◌++◌, length, Some, None, Option, nat_le, nat_lt, refl}
 use Rattle.std.proofs.Common.{sym, subst, arith}
 use Rattle.std.specs.List.{slice_get, AllByRecursion}
 use Rattle.std.proofs.ByRecursion.{All-append}
@@ -52,7 +52,7 @@ abbrev pub handler_edge : List Ty → List Cell → Handler → Edge
 handler_edge st lt x = edge x.target (Class x.class ∷ lowest x.depth st) lt
 
 module _ {P : Program} {M : Owned} (i : Instr) (pc : ℕ) {st : List Ty} {lt : List Cell} (Q : Edge → Type 0) where
-  one_found : {es : List Edge} (x : Handler) (o : Option (List Edge)) (b : Bool) → cond b (is_class P x.class >> (leb x.depth (length st) >> (ltb x.depth M.method.height >> (o >>= λ es. Some (handler_edge st lt x ∷ es))))) o ≡ Some es → AllByRecursion Q es → (hs : List Edge) × (o ≡ Some hs) × AllByRecursion Q hs × (b ≡ true → Suits P M st x × Q (handler_edge st lt x))
+  one_found : {es : List Edge} (x : Handler) (o : Option (List Edge)) (b : Bool) → cond b (is_class P x.class >> (nat_le x.depth (length st) >> (nat_lt x.depth M.method.height >> (o >>= λ es. Some (handler_edge st lt x ∷ es))))) o ≡ Some es → AllByRecursion Q es → (hs : List Edge) × (o ≡ Some hs) × AllByRecursion Q hs × (b ≡ true → Suits P M st x × Q (handler_edge st lt x))
   one_found {es} x o true e a =
       let b = tested (is_class P x.class) _ e in
       let d = tested (nat_le x.depth (length st)) _ b.1 in
@@ -72,7 +72,7 @@ module _ {P : Program} {M : Owned} (i : Instr) (pc : ℕ) {st : List Ty} {lt : L
       let k = one_found y (send_handlers P M xs i pc st lt) (is_relevant P i pc y) e a in
       handlers_suit xs k.0 k.1 k.2 j x f r
 
-  one_sent : {hs : List Edge} (x : Handler) (o : Option (List Edge)) (b : Bool) → o ≡ Some hs → AllByRecursion Q hs → (b ≡ true → Suits P M st x × Q (handler_edge st lt x)) → (es : List Edge) × (cond b (is_class P x.class >> (leb x.depth (length st) >> (ltb x.depth M.method.height >> (o >>= λ es. Some (handler_edge st lt x ∷ es))))) o ≡ Some es) × AllByRecursion Q es
+  one_sent : {hs : List Edge} (x : Handler) (o : Option (List Edge)) (b : Bool) → o ≡ Some hs → AllByRecursion Q hs → (b ≡ true → Suits P M st x × Q (handler_edge st lt x)) → (es : List Edge) × (cond b (is_class P x.class >> (nat_le x.depth (length st) >> (nat_lt x.depth M.method.height >> (o >>= λ es. Some (handler_edge st lt x ∷ es))))) o ≡ Some es) × AllByRecursion Q es
   one_sent {hs} x o true e a c = let k = c refl in (handler_edge st lt x ∷ hs, rw (lt-ltb _ _ k.0.exists, le-leb _ _ k.0.deep, lt-ltb _ _ k.0.room, e), (k.1, a))
   one_sent {hs} x o false e a c = (hs, e, a)
 

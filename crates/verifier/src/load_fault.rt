@@ -1,6 +1,6 @@
 // Why a file is not loaded: the faults of reading and of verifying, each whole.
 ghost use Rattle.std.specs.Prelude.{◌≡◌};
-ghost use Rattle.verifier.specs.declared.load_fault.LoadFault.TheVariants.{Table as of-table, Verifier as of-verifier};
+ghost use Rattle.verifier.specs.declared.load_fault.LoadFault.TheVariants.{Table as of_table, Verifier as of_verifier};
 ghost use Rattle.verifier.specs.LoadFaults.{table_layer, fault_layer, load_fault_number, load_fault_place};
 
 use crate::fault::VerifierFault;
@@ -74,7 +74,7 @@ fn table_layer(fault: TableFault) -> Layer
 }
 
 impl From<TableFault> for LoadFault {
-    ghost from_gives = { λ e r. r ≡ of-table e };
+    ghost from_gives = { λ e r. r ≡ of_table e };
 
     fn from(fault: TableFault) -> LoadFault {
         LoadFault::Table(fault)
@@ -82,7 +82,7 @@ impl From<TableFault> for LoadFault {
 }
 
 impl From<VerifierFault> for LoadFault {
-    ghost from_gives = { λ e r. r ≡ of-verifier e };
+    ghost from_gives = { λ e r. r ≡ of_verifier e };
 
     fn from(fault: VerifierFault) -> LoadFault {
         LoadFault::Verifier(fault)

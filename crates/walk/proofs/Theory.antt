@@ -27,13 +27,13 @@ module _ (m : Framework) where
 
   -- a node that nothing has reached is settled
   pub settled_first : {T : Table m} (d : Nodes) → Begun m T → d 0 ≡ true → AllSettled m d T
-  settled_first {T} d b first j j-in clean =
+  settled_first {T} d b first j j_in clean =
       ⊎_elim
       (λ (p : j ≡ 0). absurd (both_ways (d j) clean (ap d p ∙ first)))
       (λ (p : j ≡ 0 → ⊥).
-      let at = b.others j (omega arith) j-in in (
-        ap (m.flow.refused j) at ∙ m.monotone.content j j-in,
-        λ f f-in _. subst (Lands m T) (sym (ap (m.flow.sends j f) at ∙ m.monotone.silent j f j-in f-in)) nothing_lands,
+      let at = b.others j (omega arith) j_in in (
+        ap (m.flow.refused j) at ∙ m.monotone.content j j_in,
+        λ f f_in _. subst (Lands m T) (sym (ap (m.flow.sends j f) at ∙ m.monotone.silent j f j_in f_in)) nothing_lands,
       ))
       (cases_eq j 0)
 
@@ -88,14 +88,14 @@ module _ (m : Framework) where
           (cases_eq j k)
 
       pub settled_step : Settled m d i e T → Settled m d' i (e + 1) T'
-      settled_step settled j j-in clean =
+      settled_step settled j j_in clean =
           let was = kept j clean in
-          let before = settled j j-in was.0 in (
+          let before = settled j j_in was.0 in (
             ap (m.flow.refused j) was.1 ∙ before.0,
-            λ f f-in upto.
+            λ f f_in upto.
                 let at : Lands m T' (m.flow.sends j f (T j)) → Lands m T' (m.flow.sends j f (T' j)) = subst (λ (y : m.Row). Lands m T' (m.flow.sends j f y)) (sym was.1) in
                 let old : (j ≡ i → f < e) → Lands m T' (m.flow.sends j f (T j)) = λ h.
-                lands_up m goods goods_step rises_step (m.monotone.lawful j f (T j) j-in f-in (goods j j-in) before.0) (before.1 f f-in h) in
+                lands_up m goods goods_step rises_step (m.monotone.lawful j f (T j) j_in f_in (goods j j_in) before.0) (before.1 f f_in h) in
                 let new : j ≡ i → f ≡ e → Lands m T' (m.flow.sends j f (T j)) = λ p q.
                 subst (λ (g : ℕ). Lands m T' (m.flow.sends j g (T j))) (sym q) (subst (λ (n : ℕ). Lands m T' (m.flow.sends n e (T n))) (sym p) lands_step) in
                 at (⊎_elim
@@ -110,9 +110,9 @@ module _ (m : Framework) where
         start = λ l. le_trans m m.flow.start (T 0) (T' 0) m.monotone.good_start (goods 0 l) (goods_step 0 l) (held.start l) (rises_step 0 l);
         under = λ U sol j l.
             let below = held.under U sol in
-            let sent-U = m.monotone.lawful i e (U i) node edge (sol.goods i node) (sol.taken i node) in
+            let sent_U = m.monotone.lawful i e (U i) node edge (sol.goods i node) (sol.taken i node) in
             let less = subst (λ (s : Sent m.Row). Below join s (m.flow.sends i e (U i))) sends (m.monotone.less i e (T i) (U i) node edge (goods i node) (sol.goods i node) (below i node) (sol.taken i node)) in
-            let brought : Le join x (U k) = below_lands m sol.goods lawful sent-U less (sol.lands i e node edge) in
+            let brought : Le join x (U k) = below_lands m sol.goods lawful sent_U less (sol.lands i e node edge) in
             ⊎_elim
             (λ (p : j ≡ k). subst (λ (n : ℕ). Le join (T' n) (U n)) (sym p)
             (subst (λ (y : m.Row). Le join y (U k)) (sym raised.here) (join_least m (T k) x (U k) (goods k step_inside) step_good (sol.goods k step_inside) (below k step_inside) brought)))
@@ -122,24 +122,24 @@ module _ (m : Framework) where
 
   -- an edge that sends nothing is settled
   pub settled_quiet : {i e : ℕ} {T : Table m} (d : Nodes) → m.flow.sends i e (T i) ≡ nothing → Settled m d i e T → Settled m d i (e + 1) T
-  settled_quiet {i} {e} {T} d quiet settled j j-in clean =
-      let before = settled j j-in clean in (
+  settled_quiet {i} {e} {T} d quiet settled j j_in clean =
+      let before = settled j j_in clean in (
         before.0,
-        λ f f-in upto. ⊎_elim
+        λ f f_in upto. ⊎_elim
             (λ (p : j ≡ i). ⊎_elim
             (λ (q : f ≡ e). subst (λ (g : ℕ). Lands m T (m.flow.sends j g (T j))) (sym q) (subst (λ (n : ℕ). Lands m T (m.flow.sends n e (T n))) (sym p) (subst (Lands m T) (sym quiet) nothing_lands)))
-            (λ (q : f ≡ e → ⊥). let u = upto p in before.1 f f-in (λ _. omega arith))
+            (λ (q : f ≡ e → ⊥). let u = upto p in before.1 f f_in (λ _. omega arith))
             (cases_eq f e))
-            (λ (p : j ≡ i → ⊥). before.1 f f-in (λ h. absurd (p h)))
+            (λ (p : j ≡ i → ⊥). before.1 f f_in (λ h. absurd (p h)))
             (cases_eq j i),
       )
 
   -- a node is begun: it takes its row, is no longer marked, and none of its edges is settled
   pub settled_begin : {T : Table m} (d d' : Nodes) (i : ℕ) → m.flow.refused i (T i) ≡ false → ((j : ℕ) → (j ≡ i → ⊥) → d' j ≡ d j) → AllSettled m d T → Settled m d' i 0 T
-  settled_begin {T} d d' i fine keeps settled j j-in clean =
+  settled_begin {T} d d' i fine keeps settled j j_in clean =
       ⊎_elim
-      (λ (p : j ≡ i). (subst (λ (n : ℕ). m.flow.refused n (T n) ≡ false) (sym p) fine, λ f f-in upto. absurd (let h = upto p in omega arith)))
-      (λ (p : j ≡ i → ⊥). let s = settled j j-in (sym (keeps j p) ∙ clean) in (s.0, λ f f-in upto. s.1 f f-in tt))
+      (λ (p : j ≡ i). (subst (λ (n : ℕ). m.flow.refused n (T n) ≡ false) (sym p) fine, λ f f_in upto. absurd (let h = upto p in omega arith)))
+      (λ (p : j ≡ i → ⊥). let s = settled j j_in (sym (keeps j p) ∙ clean) in (s.0, λ f f_in upto. s.1 f f_in tt))
       (cases_eq j i)
 
   pub inside_begin : (d d' : Nodes) (i : ℕ) → d' i ≡ false → ((j : ℕ) → (j ≡ i → ⊥) → d' j ≡ d j) → Inside m d → Inside m d'
@@ -151,13 +151,13 @@ module _ (m : Framework) where
 
   -- a node is done, or is marked again
   pub settled_end : {T : Table m} (d : Nodes) (i e : ℕ) → (d i ≡ true) ⊎ (m.flow.edges i ≤ e) → Settled m d i e T → AllSettled m d T
-  settled_end d i e done settled j j-in clean =
-      let s = settled j j-in clean in (
+  settled_end d i e done settled j j_in clean =
+      let s = settled j j_in clean in (
         s.0,
-        λ f f-in _. s.1 f f-in (λ p.
+        λ f f_in _. s.1 f f_in (λ p.
             ⊎_elim
             (λ (q : d i ≡ true). absurd (both_ways (d i) (subst (λ (n : ℕ). d n ≡ false) p clean) q))
-            (λ (q : m.flow.edges i ≤ e). let h : f < m.flow.edges i = subst (λ (n : ℕ). f < m.flow.edges n) p f-in in omega arith)
+            (λ (q : m.flow.edges i ≤ e). let h : f < m.flow.edges i = subst (λ (n : ℕ). f < m.flow.edges n) p f_in in omega arith)
             done),
       )
 

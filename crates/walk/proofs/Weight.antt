@@ -76,10 +76,10 @@ module _ (m : Framework) where
   everywhere {P} k here other j = ⊎_elim (λ (p : j ≡ k). subst P (sym p) here) (other j) (cases_eq j k)
 
   pub weight_raised : {k : ℕ} {x : m.Row} {T T' : Table m} {d d' : Nodes} → k < nodes m → m.good (T k) → m.good x → Raised m k x T d T' d' → weight m T' d' ≤ weight m T d
-  weight_raised {k} {x} {T} {T'} {d} {d'} l good-k good-x raised =
+  weight_raised {k} {x} {T} {T'} {d} {d'} l good_k good_x raised =
       ⊎_elim
       (λ (p : (d' k ≡ true) × (T' k ≡ T k → ⊥)).
-      let falls = m.lattice.rises (T k) x good-k good-x (λ e. p.1 (raised.here ∙ e)) in
+      let falls = m.lattice.rises (T k) x good_k good_x (λ e. p.1 (raised.here ∙ e)) in
       let r : m.left (T' k) < m.left (T k) = subst (λ (y : m.Row). m.left y < m.left (T k)) (sym raised.here) falls in
       weight_rise T T' d d' k l r raised.other raised.others)
       (λ (p : (d' k ≡ d k) × (T' k ≡ T k)).

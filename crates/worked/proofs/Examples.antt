@@ -22,7 +22,7 @@ use Rattle.format.specs.declared.fault.TableFault.{TableFault}
 use Rattle.format.specs.declared.fault.TableFault.TheVariants.{Number, LeftOver}
 use Rattle.format.specs.Faults.{table_fault_number, table_fault_place}
 use Rattle.format.specs.Rules.{each, keeps}
-use Rattle.format.specs.Parse.{method_at as method-read, class_at, classes_at, parse}
+use Rattle.format.specs.Parse.{method_at as method_read, class_at, classes_at, parse}
 use Rattle.format.proofs.RoundTrip.{read_was_written}
 use Rattle.format.proofs.WellFormed.{kept_is_well_formed}
 use Rattle.worked.specs.Standing.{refused, accepted, Run, listed, tables, FirstUntypable, machine, calls, answers_of, replies_of, Comes, Stands}
@@ -82,7 +82,7 @@ infixr 5 ◌also◌
 a also b = (a, b)
 
 pub examples_stand : ExamplesStand
-unfolding number_at superclass_of at_or_below fields_of method_at own_method sees nearest class_of fits int_wrap method-read class_at classes_at parse
+unfolding number_at superclass_of at_or_below fields_of method_at own_method sees nearest class_of fits int_wrap method_read class_at classes_at parse
 examples_stand =
     accepts refl refl (adding_rows ∷ []) refl (ran Finished refl refl refl also tt)
     also rejects refl refl refl refl

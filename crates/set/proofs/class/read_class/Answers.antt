@@ -32,15 +32,15 @@ pub returns-in_err-fields : goal.returns-in_err-fields
 returns-in_err-fields c =
     let t = c.args.t.now in
     let file = file_of c.args.c.now in
-    let a-superclass = ap (λ k. below_at file k (place_of c.args.c.now)) (known_classes t) ∙ c.in_ok-superclass.ensures.gave in
-    let f-superclass = c.in_ok-superclass.ensures.file in
+    let a_superclass = ap (λ k. below_at file k (place_of c.args.c.now)) (known_classes t) ∙ c.in_ok-superclass.ensures.gave in
+    let f_superclass = c.in_ok-superclass.ensures.file in
     let p = err_from_is_err_and c.from_residual-in_err-fields.result c.from_residual-in_err-fields.ensures.1 in
     rw (p.1, p.2) (record {
-      file = c.in_err-fields.ensures.file ∙ f-superclass;
+      file = c.in_err-fields.ensures.file ∙ f_superclass;
       full = tt;
       more = tt;
-      gave = no_fields file c.args.n (program_of t) (place_of c.args.c.now) _ _ a-superclass c.in_err-fields.field-0.0 (fields_counted file c.args.n (program_of t) c.in_ok-superclass.superclass (place_of c.read_superclass.new.c) c.row_len-inherited.result (sym c.row_len-inherited.ensures.len)
-          ∙ moved (λ x. then (more_at x c.row_len-inherited.result max_fields (place_of c.read_superclass.new.c)) (λ k q. counted (field_at x c.args.n) k [] q)) f-superclass c.in_err-fields.ensures.gave);
+      gave = no_fields file c.args.n (program_of t) (place_of c.args.c.now) _ _ a_superclass c.in_err-fields.field-0.0 (fields_counted file c.args.n (program_of t) c.in_ok-superclass.superclass (place_of c.read_superclass.new.c) c.row_len-inherited.result (sym c.row_len-inherited.ensures.len)
+          ∙ moved (λ x. then (more_at x c.row_len-inherited.result max_fields (place_of c.read_superclass.new.c)) (λ k q. counted (field_at x c.args.n) k [] q)) f_superclass c.in_err-fields.ensures.gave);
     })
 
 pub read_methods-requires : goal.read_methods-requires
@@ -55,18 +55,18 @@ pub returns-in_err-methods : goal.returns-in_err-methods
 returns-in_err-methods c =
     let t = c.args.t.now in
     let file = file_of c.args.c.now in
-    let a-superclass = ap (λ k. below_at file k (place_of c.args.c.now)) (known_classes t) ∙ c.in_ok-superclass.ensures.gave in
-    let f-superclass = c.in_ok-superclass.ensures.file in
-    let a-fields = fields_counted file c.args.n (program_of t) c.in_ok-superclass.superclass (place_of c.read_superclass.new.c) c.row_len-inherited.result (sym c.row_len-inherited.ensures.len)
-    ∙ moved (λ x. then (more_at x c.row_len-inherited.result max_fields (place_of c.read_superclass.new.c)) (λ k q. counted (field_at x c.args.n) k [] q)) f-superclass c.in_ok-fields.ensures.gave.0 in
-    let f-fields = c.in_ok-fields.ensures.file ∙ f-superclass in
+    let a_superclass = ap (λ k. below_at file k (place_of c.args.c.now)) (known_classes t) ∙ c.in_ok-superclass.ensures.gave in
+    let f_superclass = c.in_ok-superclass.ensures.file in
+    let a_fields = fields_counted file c.args.n (program_of t) c.in_ok-superclass.superclass (place_of c.read_superclass.new.c) c.row_len-inherited.result (sym c.row_len-inherited.ensures.len)
+    ∙ moved (λ x. then (more_at x c.row_len-inherited.result max_fields (place_of c.read_superclass.new.c)) (λ k q. counted (field_at x c.args.n) k [] q)) f_superclass c.in_ok-fields.ensures.gave.0 in
+    let f_fields = c.in_ok-fields.ensures.file ∙ f_superclass in
     let kept = fields_kept t c.read_fields.new.t c.in_ok-fields.fields c.in_ok-fields.ensures.rest c.in_ok-fields.ensures.gave.1 in
     let p = err_from_is_err_and c.from_residual-in_err-methods.result c.from_residual-in_err-methods.ensures.1 in
     rw (p.1, p.2) (record {
-      file = c.in_err-methods.ensures.file ∙ f-fields;
+      file = c.in_err-methods.ensures.file ∙ f_fields;
       full = tt;
       more = tt;
-      gave = no_methods file c.args.n (program_of t) (place_of c.args.c.now) _ _ a-superclass _ _ a-fields c.in_err-methods.field-0.0 (moved (λ x. methods_at x c.args.n (program_of t) c.in_ok-superclass.superclass (place_of c.read_fields.new.c)) f-fields
+      gave = no_methods file c.args.n (program_of t) (place_of c.args.c.now) _ _ a_superclass _ _ a_fields c.in_err-methods.field-0.0 (moved (λ x. methods_at x c.args.n (program_of t) c.in_ok-superclass.superclass (place_of c.read_fields.new.c)) f_fields
           (sym (ap (λ P. methods_at (file_of c.read_fields.new.c) c.args.n P c.in_ok-superclass.superclass (place_of c.read_fields.new.c)) kept) ∙ c.in_err-methods.ensures.gave));
     })
 
@@ -94,11 +94,11 @@ pub returns : goal.returns
 returns c =
     let t = c.args.t.now in
     let file = file_of c.args.c.now in
-    let a-superclass = ap (λ k. below_at file k (place_of c.args.c.now)) (known_classes t) ∙ c.in_ok-superclass.ensures.gave in
-    let f-superclass = c.in_ok-superclass.ensures.file in
-    let a-fields = fields_counted file c.args.n (program_of t) c.in_ok-superclass.superclass (place_of c.read_superclass.new.c) c.row_len-inherited.result (sym c.row_len-inherited.ensures.len)
-    ∙ moved (λ x. then (more_at x c.row_len-inherited.result max_fields (place_of c.read_superclass.new.c)) (λ k q. counted (field_at x c.args.n) k [] q)) f-superclass c.in_ok-fields.ensures.gave.0 in
-    let f-fields = c.in_ok-fields.ensures.file ∙ f-superclass in
+    let a_superclass = ap (λ k. below_at file k (place_of c.args.c.now)) (known_classes t) ∙ c.in_ok-superclass.ensures.gave in
+    let f_superclass = c.in_ok-superclass.ensures.file in
+    let a_fields = fields_counted file c.args.n (program_of t) c.in_ok-superclass.superclass (place_of c.read_superclass.new.c) c.row_len-inherited.result (sym c.row_len-inherited.ensures.len)
+    ∙ moved (λ x. then (more_at x c.row_len-inherited.result max_fields (place_of c.read_superclass.new.c)) (λ k q. counted (field_at x c.args.n) k [] q)) f_superclass c.in_ok-fields.ensures.gave.0 in
+    let f_fields = c.in_ok-fields.ensures.file ∙ f_superclass in
     let v = c.read_methods.new.t in
     let o = c.in_ok-fields.ensures.rest in
     let b = c.in_ok-fields.ensures.gave.1 in
@@ -109,16 +109,16 @@ returns c =
     let all : length (methods_of v) ≡ c.in_ok-methods.methods.first + c.in_ok-methods.methods.count = omega (arith, more.methods, c.in_ok-methods.ensures.first) in
     let k : ClassRec = record { superclass = c.in_ok-superclass.superclass; fields = c.in_ok-fields.fields; methods = c.in_ok-methods.methods } in
     let same = more.classes ∙ o.classes in
-    let a-methods = moved (λ x. methods_at x c.args.n (program_of t) c.in_ok-superclass.superclass (place_of c.read_fields.new.c)) f-fields
+    let a_methods = moved (λ x. methods_at x c.args.n (program_of t) c.in_ok-superclass.superclass (place_of c.read_fields.new.c)) f_fields
     (sym (ap (λ P. methods_at (file_of c.read_fields.new.c) c.args.n P c.in_ok-superclass.superclass (place_of c.read_fields.new.c)) kept) ∙ c.in_ok-methods.ensures.gave) in
     let u = c.push_class.new.t in
     let classes = c.push_class.ensures.classes in
     let few : length (fields_of v) ≤ max_fields * (length (classes_of v) + 1) = omega (arith, c.requires.full.fields, b.all, b.first, ap length more.fields, ap length same, c.in_ok-fields.ensures.most) in
     let program = program_push v u k c.push_class.ensures.rest classes in
     record {
-      file = c.in_ok-methods.ensures.file ∙ f-fields;
+      file = c.in_ok-methods.ensures.file ∙ f_fields;
       full = full_push v u k c.push_class.ensures.rest classes c.in_ok-methods.ensures.tallied first all few;
       more = ap length classes ∙ (length_push (classes_of v) k ∙ ap (λ n. n + 1) (ap length same));
-      gave = one_class file c.args.n (program_of t) (place_of c.args.c.now) _ _ a-superclass _ _ a-fields _ _ a-methods
+      gave = one_class file c.args.n (program_of t) (place_of c.args.c.now) _ _ a_superclass _ _ a_fields _ _ a_methods
           ∙ ap (λ P. Ok (P, place_of c.read_methods.new.c)) (sym (program ∙ class_as _ _ _ _ (method_views v) _ k (more.program ∙ kept) more.fields (part_mine v c.in_ok-methods.methods all)));
     }

@@ -32,32 +32,32 @@ pub returns-in_err-params : goal.returns-in_err-params
 returns-in_err-params c =
     let t = c.args.t.now in
     let file = file_of c.args.c.now in
-    let a-name = names_mine file t c.args.first (place_of c.args.c.now) c.requires.tallied.within ∙ c.in_ok-name.ensures.gave in
-    let f-name = c.in_ok-name.ensures.file in
+    let a_name = names_mine file t c.args.first (place_of c.args.c.now) c.requires.tallied.within ∙ c.in_ok-name.ensures.gave in
+    let f_name = c.in_ok-name.ensures.file in
     let p = err_from_is_err_and c.from_residual-in_err-params.result c.from_residual-in_err-params.ensures.1 in
     rw (p.1, p.2) (record {
-      file = c.in_err-params.ensures.file ∙ f-name;
+      file = c.in_err-params.ensures.file ∙ f_name;
       tallied = tt;
       more = tt;
-      gave = no_params file c.args.n (program_of t) c.args.s (mine c.args.first t) (place_of c.args.c.now) _ _ a-name c.in_err-params.field-0.0 (moved (λ x. params_at x c.args.n (place_of c.read_name.new.c)) f-name c.in_err-params.ensures.gave);
+      gave = no_params file c.args.n (program_of t) c.args.s (mine c.args.first t) (place_of c.args.c.now) _ _ a_name c.in_err-params.field-0.0 (moved (λ x. params_at x c.args.n (place_of c.read_name.new.c)) f_name c.in_err-params.ensures.gave);
     })
 
 pub returns-in_err-result : goal.returns-in_err-result
 returns-in_err-result c =
     let t = c.args.t.now in
     let file = file_of c.args.c.now in
-    let a-name = names_mine file t c.args.first (place_of c.args.c.now) c.requires.tallied.within ∙ c.in_ok-name.ensures.gave in
-    let f-name = c.in_ok-name.ensures.file in
-    let a-params = moved (λ x. params_at x c.args.n (place_of c.read_name.new.c)) f-name c.in_ok-params.ensures.gave.0 in
-    let f-params = c.in_ok-params.ensures.file ∙ f-name in
+    let a_name = names_mine file t c.args.first (place_of c.args.c.now) c.requires.tallied.within ∙ c.in_ok-name.ensures.gave in
+    let f_name = c.in_ok-name.ensures.file in
+    let a_params = moved (λ x. params_at x c.args.n (place_of c.read_name.new.c)) f_name c.in_ok-params.ensures.gave.0 in
+    let f_params = c.in_ok-params.ensures.file ∙ f_name in
     let ps = part c.in_ok-params.params (params_of c.read_params.new.t) in
     let kept = program_kept t c.read_params.new.t (params_extend t c.read_params.new.t c.in_ok-params.params c.in_ok-params.ensures.rest c.in_ok-params.ensures.gave.1) in
     let p = err_from_is_err_and c.from_residual-in_err-result.result c.from_residual-in_err-result.ensures.1 in
     rw (p.1, p.2) (record {
-      file = c.in_err-result.ensures.file ∙ f-params;
+      file = c.in_err-result.ensures.file ∙ f_params;
       tallied = tt;
       more = tt;
-      gave = no_result file c.args.n (program_of t) c.args.s (mine c.args.first t) (place_of c.args.c.now) _ _ a-name _ _ a-params c.in_err-result.field-0.0 (moved (λ x. result_at x c.args.n (program_of t) c.args.s c.in_ok-name.name ps (place_of c.read_params.new.c)) f-params
+      gave = no_result file c.args.n (program_of t) c.args.s (mine c.args.first t) (place_of c.args.c.now) _ _ a_name _ _ a_params c.in_err-result.field-0.0 (moved (λ x. result_at x c.args.n (program_of t) c.args.s c.in_ok-name.name ps (place_of c.read_params.new.c)) f_params
           (sym (ap (λ P. result_at (file_of c.read_params.new.c) c.args.n P c.args.s c.in_ok-name.name ps (place_of c.read_params.new.c)) kept) ∙ c.in_err-result.ensures.gave));
     })
 
@@ -65,44 +65,44 @@ pub returns-in_err-height : goal.returns-in_err-height
 returns-in_err-height c =
     let t = c.args.t.now in
     let file = file_of c.args.c.now in
-    let a-name = names_mine file t c.args.first (place_of c.args.c.now) c.requires.tallied.within ∙ c.in_ok-name.ensures.gave in
-    let f-name = c.in_ok-name.ensures.file in
-    let a-params = moved (λ x. params_at x c.args.n (place_of c.read_name.new.c)) f-name c.in_ok-params.ensures.gave.0 in
-    let f-params = c.in_ok-params.ensures.file ∙ f-name in
+    let a_name = names_mine file t c.args.first (place_of c.args.c.now) c.requires.tallied.within ∙ c.in_ok-name.ensures.gave in
+    let f_name = c.in_ok-name.ensures.file in
+    let a_params = moved (λ x. params_at x c.args.n (place_of c.read_name.new.c)) f_name c.in_ok-params.ensures.gave.0 in
+    let f_params = c.in_ok-params.ensures.file ∙ f_name in
     let ps = part c.in_ok-params.params (params_of c.read_params.new.t) in
     let kept = program_kept t c.read_params.new.t (params_extend t c.read_params.new.t c.in_ok-params.params c.in_ok-params.ensures.rest c.in_ok-params.ensures.gave.1) in
-    let a-result = moved (λ x. result_at x c.args.n (program_of t) c.args.s c.in_ok-name.name ps (place_of c.read_params.new.c)) f-params
+    let a_result = moved (λ x. result_at x c.args.n (program_of t) c.args.s c.in_ok-name.name ps (place_of c.read_params.new.c)) f_params
     (sym (ap (λ P. result_at (file_of c.read_params.new.c) c.args.n P c.args.s c.in_ok-name.name ps (place_of c.read_params.new.c)) kept) ∙ c.in_ok-result.ensures.gave) in
-    let f-result = c.in_ok-result.ensures.file ∙ f-params in
+    let f_result = c.in_ok-result.ensures.file ∙ f_params in
     let p = err_from_is_err_and c.from_residual-in_err-height.result c.from_residual-in_err-height.ensures.1 in
     rw (p.1, p.2) (record {
-      file = c.in_err-height.ensures.file ∙ f-result;
+      file = c.in_err-height.ensures.file ∙ f_result;
       tallied = tt;
       more = tt;
-      gave = no_height file c.args.n (program_of t) c.args.s (mine c.args.first t) (place_of c.args.c.now) _ _ a-name _ _ a-params _ _ a-result c.in_err-height.field-0.0 (moved (λ x. at_most x max_height (place_of c.read_result.new.c)) f-result c.in_err-height.ensures.gave);
+      gave = no_height file c.args.n (program_of t) c.args.s (mine c.args.first t) (place_of c.args.c.now) _ _ a_name _ _ a_params _ _ a_result c.in_err-height.field-0.0 (moved (λ x. at_most x max_height (place_of c.read_result.new.c)) f_result c.in_err-height.ensures.gave);
     })
 
 pub returns-in_err-extras : goal.returns-in_err-extras
 returns-in_err-extras c =
     let t = c.args.t.now in
     let file = file_of c.args.c.now in
-    let a-name = names_mine file t c.args.first (place_of c.args.c.now) c.requires.tallied.within ∙ c.in_ok-name.ensures.gave in
-    let f-name = c.in_ok-name.ensures.file in
-    let a-params = moved (λ x. params_at x c.args.n (place_of c.read_name.new.c)) f-name c.in_ok-params.ensures.gave.0 in
-    let f-params = c.in_ok-params.ensures.file ∙ f-name in
+    let a_name = names_mine file t c.args.first (place_of c.args.c.now) c.requires.tallied.within ∙ c.in_ok-name.ensures.gave in
+    let f_name = c.in_ok-name.ensures.file in
+    let a_params = moved (λ x. params_at x c.args.n (place_of c.read_name.new.c)) f_name c.in_ok-params.ensures.gave.0 in
+    let f_params = c.in_ok-params.ensures.file ∙ f_name in
     let ps = part c.in_ok-params.params (params_of c.read_params.new.t) in
     let kept = program_kept t c.read_params.new.t (params_extend t c.read_params.new.t c.in_ok-params.params c.in_ok-params.ensures.rest c.in_ok-params.ensures.gave.1) in
-    let a-result = moved (λ x. result_at x c.args.n (program_of t) c.args.s c.in_ok-name.name ps (place_of c.read_params.new.c)) f-params
+    let a_result = moved (λ x. result_at x c.args.n (program_of t) c.args.s c.in_ok-name.name ps (place_of c.read_params.new.c)) f_params
     (sym (ap (λ P. result_at (file_of c.read_params.new.c) c.args.n P c.args.s c.in_ok-name.name ps (place_of c.read_params.new.c)) kept) ∙ c.in_ok-result.ensures.gave) in
-    let f-result = c.in_ok-result.ensures.file ∙ f-params in
-    let a-height = moved (λ x. at_most x max_height (place_of c.read_result.new.c)) f-result c.in_ok-height.ensures.gave in
-    let f-height = c.in_ok-height.ensures.file ∙ f-result in
+    let f_result = c.in_ok-result.ensures.file ∙ f_params in
+    let a_height = moved (λ x. at_most x max_height (place_of c.read_result.new.c)) f_result c.in_ok-height.ensures.gave in
+    let f_height = c.in_ok-height.ensures.file ∙ f_result in
     let p = err_from_is_err_and c.from_residual-in_err-extras.result c.from_residual-in_err-extras.ensures.1 in
     rw (p.1, p.2) (record {
-      file = c.in_err-extras.ensures.file ∙ f-height;
+      file = c.in_err-extras.ensures.file ∙ f_height;
       tallied = tt;
       more = tt;
-      gave = no_extras file c.args.n (program_of t) c.args.s (mine c.args.first t) (place_of c.args.c.now) _ _ a-name _ _ a-params _ _ a-result _ _ a-height c.in_err-extras.field-0.0 (moved (λ x. extras_at x (length ps) (place_of c.at_most.new.c)) f-height
+      gave = no_extras file c.args.n (program_of t) c.args.s (mine c.args.first t) (place_of c.args.c.now) _ _ a_name _ _ a_params _ _ a_result _ _ a_height c.in_err-extras.field-0.0 (moved (λ x. extras_at x (length ps) (place_of c.at_most.new.c)) f_height
           (ap (λ k. extras_at (file_of c.at_most.new.c) k (place_of c.at_most.new.c)) (length_part c.in_ok-params.params (params_of c.read_params.new.t) (behind_within c.in_ok-params.ensures.gave.1)) ∙ c.in_err-extras.ensures.gave));
     })
 
@@ -110,26 +110,26 @@ pub returns-in_err-code : goal.returns-in_err-code
 returns-in_err-code c =
     let t = c.args.t.now in
     let file = file_of c.args.c.now in
-    let a-name = names_mine file t c.args.first (place_of c.args.c.now) c.requires.tallied.within ∙ c.in_ok-name.ensures.gave in
-    let f-name = c.in_ok-name.ensures.file in
-    let a-params = moved (λ x. params_at x c.args.n (place_of c.read_name.new.c)) f-name c.in_ok-params.ensures.gave.0 in
-    let f-params = c.in_ok-params.ensures.file ∙ f-name in
+    let a_name = names_mine file t c.args.first (place_of c.args.c.now) c.requires.tallied.within ∙ c.in_ok-name.ensures.gave in
+    let f_name = c.in_ok-name.ensures.file in
+    let a_params = moved (λ x. params_at x c.args.n (place_of c.read_name.new.c)) f_name c.in_ok-params.ensures.gave.0 in
+    let f_params = c.in_ok-params.ensures.file ∙ f_name in
     let ps = part c.in_ok-params.params (params_of c.read_params.new.t) in
     let kept = program_kept t c.read_params.new.t (params_extend t c.read_params.new.t c.in_ok-params.params c.in_ok-params.ensures.rest c.in_ok-params.ensures.gave.1) in
-    let a-result = moved (λ x. result_at x c.args.n (program_of t) c.args.s c.in_ok-name.name ps (place_of c.read_params.new.c)) f-params
+    let a_result = moved (λ x. result_at x c.args.n (program_of t) c.args.s c.in_ok-name.name ps (place_of c.read_params.new.c)) f_params
     (sym (ap (λ P. result_at (file_of c.read_params.new.c) c.args.n P c.args.s c.in_ok-name.name ps (place_of c.read_params.new.c)) kept) ∙ c.in_ok-result.ensures.gave) in
-    let f-result = c.in_ok-result.ensures.file ∙ f-params in
-    let a-height = moved (λ x. at_most x max_height (place_of c.read_result.new.c)) f-result c.in_ok-height.ensures.gave in
-    let f-height = c.in_ok-height.ensures.file ∙ f-result in
-    let a-extras = moved (λ x. extras_at x (length ps) (place_of c.at_most.new.c)) f-height
+    let f_result = c.in_ok-result.ensures.file ∙ f_params in
+    let a_height = moved (λ x. at_most x max_height (place_of c.read_result.new.c)) f_result c.in_ok-height.ensures.gave in
+    let f_height = c.in_ok-height.ensures.file ∙ f_result in
+    let a_extras = moved (λ x. extras_at x (length ps) (place_of c.at_most.new.c)) f_height
     (ap (λ k. extras_at (file_of c.at_most.new.c) k (place_of c.at_most.new.c)) (length_part c.in_ok-params.params (params_of c.read_params.new.t) (behind_within c.in_ok-params.ensures.gave.1)) ∙ c.in_ok-extras.ensures.gave) in
-    let f-extras = c.in_ok-extras.ensures.file ∙ f-height in
+    let f_extras = c.in_ok-extras.ensures.file ∙ f_height in
     let p = err_from_is_err_and c.from_residual-in_err-code.result c.from_residual-in_err-code.ensures.1 in
     rw (p.1, p.2) (record {
-      file = c.in_err-code.ensures.file ∙ f-extras;
+      file = c.in_err-code.ensures.file ∙ f_extras;
       tallied = tt;
       more = tt;
-      gave = no_code file c.args.n (program_of t) c.args.s (mine c.args.first t) (place_of c.args.c.now) _ _ a-name _ _ a-params _ _ a-result _ _ a-height _ _ a-extras c.in_err-code.field-0.0 (moved (λ x. code_at x (program_code (program_of t) + count_code (mine c.args.first t)) (place_of c.read_more.new.c)) f-extras
+      gave = no_code file c.args.n (program_of t) c.args.s (mine c.args.first t) (place_of c.args.c.now) _ _ a_name _ _ a_params _ _ a_result _ _ a_height _ _ a_extras c.in_err-code.field-0.0 (moved (λ x. code_at x (program_code (program_of t) + count_code (mine c.args.first t)) (place_of c.read_more.new.c)) f_extras
           (sym (ap (λ k. code_at (file_of c.read_more.new.c) k (place_of c.read_more.new.c)) (ap length c.in_ok-params.ensures.rest.instrs ∙ c.requires.tallied.code)) ∙ c.in_err-code.ensures.gave));
     })
 
@@ -137,29 +137,29 @@ pub returns-in_err-handlers : goal.returns-in_err-handlers
 returns-in_err-handlers c =
     let t = c.args.t.now in
     let file = file_of c.args.c.now in
-    let a-name = names_mine file t c.args.first (place_of c.args.c.now) c.requires.tallied.within ∙ c.in_ok-name.ensures.gave in
-    let f-name = c.in_ok-name.ensures.file in
-    let a-params = moved (λ x. params_at x c.args.n (place_of c.read_name.new.c)) f-name c.in_ok-params.ensures.gave.0 in
-    let f-params = c.in_ok-params.ensures.file ∙ f-name in
+    let a_name = names_mine file t c.args.first (place_of c.args.c.now) c.requires.tallied.within ∙ c.in_ok-name.ensures.gave in
+    let f_name = c.in_ok-name.ensures.file in
+    let a_params = moved (λ x. params_at x c.args.n (place_of c.read_name.new.c)) f_name c.in_ok-params.ensures.gave.0 in
+    let f_params = c.in_ok-params.ensures.file ∙ f_name in
     let ps = part c.in_ok-params.params (params_of c.read_params.new.t) in
     let kept = program_kept t c.read_params.new.t (params_extend t c.read_params.new.t c.in_ok-params.params c.in_ok-params.ensures.rest c.in_ok-params.ensures.gave.1) in
-    let a-result = moved (λ x. result_at x c.args.n (program_of t) c.args.s c.in_ok-name.name ps (place_of c.read_params.new.c)) f-params
+    let a_result = moved (λ x. result_at x c.args.n (program_of t) c.args.s c.in_ok-name.name ps (place_of c.read_params.new.c)) f_params
     (sym (ap (λ P. result_at (file_of c.read_params.new.c) c.args.n P c.args.s c.in_ok-name.name ps (place_of c.read_params.new.c)) kept) ∙ c.in_ok-result.ensures.gave) in
-    let f-result = c.in_ok-result.ensures.file ∙ f-params in
-    let a-height = moved (λ x. at_most x max_height (place_of c.read_result.new.c)) f-result c.in_ok-height.ensures.gave in
-    let f-height = c.in_ok-height.ensures.file ∙ f-result in
-    let a-extras = moved (λ x. extras_at x (length ps) (place_of c.at_most.new.c)) f-height
+    let f_result = c.in_ok-result.ensures.file ∙ f_params in
+    let a_height = moved (λ x. at_most x max_height (place_of c.read_result.new.c)) f_result c.in_ok-height.ensures.gave in
+    let f_height = c.in_ok-height.ensures.file ∙ f_result in
+    let a_extras = moved (λ x. extras_at x (length ps) (place_of c.at_most.new.c)) f_height
     (ap (λ k. extras_at (file_of c.at_most.new.c) k (place_of c.at_most.new.c)) (length_part c.in_ok-params.params (params_of c.read_params.new.t) (behind_within c.in_ok-params.ensures.gave.1)) ∙ c.in_ok-extras.ensures.gave) in
-    let f-extras = c.in_ok-extras.ensures.file ∙ f-height in
-    let a-code = moved (λ x. code_at x (program_code (program_of t) + count_code (mine c.args.first t)) (place_of c.read_more.new.c)) f-extras
+    let f_extras = c.in_ok-extras.ensures.file ∙ f_height in
+    let a_code = moved (λ x. code_at x (program_code (program_of t) + count_code (mine c.args.first t)) (place_of c.read_more.new.c)) f_extras
     (sym (ap (λ k. code_at (file_of c.read_more.new.c) k (place_of c.read_more.new.c)) (ap length c.in_ok-params.ensures.rest.instrs ∙ c.requires.tallied.code)) ∙ c.in_ok-code.ensures.gave.0) in
-    let f_code = c.in_ok-code.ensures.file ∙ f-extras in
+    let f_code = c.in_ok-code.ensures.file ∙ f_extras in
     let p = err_from_is_err_and c.from_residual-in_err-handlers.result c.from_residual-in_err-handlers.ensures.1 in
     rw (p.1, p.2) (record {
       file = c.in_err-handlers.ensures.file ∙ f_code;
       tallied = tt;
       more = tt;
-      gave = no_handlers file c.args.n (program_of t) c.args.s (mine c.args.first t) (place_of c.args.c.now) _ _ a-name _ _ a-params _ _ a-result _ _ a-height _ _ a-extras _ _ a-code c.in_err-handlers.field-0.0 (moved (λ x. handlers_at x (program_handlers (program_of t) + count_handlers (mine c.args.first t)) (place_of c.read_code.new.c)) f_code
+      gave = no_handlers file c.args.n (program_of t) c.args.s (mine c.args.first t) (place_of c.args.c.now) _ _ a_name _ _ a_params _ _ a_result _ _ a_height _ _ a_extras _ _ a_code c.in_err-handlers.field-0.0 (moved (λ x. handlers_at x (program_handlers (program_of t) + count_handlers (mine c.args.first t)) (place_of c.read_code.new.c)) f_code
           (sym (ap (λ k. handlers_at (file_of c.read_code.new.c) k (place_of c.read_code.new.c)) (ap length (c.in_ok-code.ensures.rest.handlers ∙ c.in_ok-params.ensures.rest.handlers) ∙ c.requires.tallied.handlers)) ∙ c.in_err-handlers.ensures.gave));
     })
 
@@ -167,34 +167,34 @@ pub returns : goal.returns
 returns c =
     let t = c.args.t.now in
     let file = file_of c.args.c.now in
-    let a-name = names_mine file t c.args.first (place_of c.args.c.now) c.requires.tallied.within ∙ c.in_ok-name.ensures.gave in
-    let f-name = c.in_ok-name.ensures.file in
-    let a-params = moved (λ x. params_at x c.args.n (place_of c.read_name.new.c)) f-name c.in_ok-params.ensures.gave.0 in
-    let f-params = c.in_ok-params.ensures.file ∙ f-name in
+    let a_name = names_mine file t c.args.first (place_of c.args.c.now) c.requires.tallied.within ∙ c.in_ok-name.ensures.gave in
+    let f_name = c.in_ok-name.ensures.file in
+    let a_params = moved (λ x. params_at x c.args.n (place_of c.read_name.new.c)) f_name c.in_ok-params.ensures.gave.0 in
+    let f_params = c.in_ok-params.ensures.file ∙ f_name in
     let ps = part c.in_ok-params.params (params_of c.read_params.new.t) in
     let kept = program_kept t c.read_params.new.t (params_extend t c.read_params.new.t c.in_ok-params.params c.in_ok-params.ensures.rest c.in_ok-params.ensures.gave.1) in
-    let a-result = moved (λ x. result_at x c.args.n (program_of t) c.args.s c.in_ok-name.name ps (place_of c.read_params.new.c)) f-params
+    let a_result = moved (λ x. result_at x c.args.n (program_of t) c.args.s c.in_ok-name.name ps (place_of c.read_params.new.c)) f_params
     (sym (ap (λ P. result_at (file_of c.read_params.new.c) c.args.n P c.args.s c.in_ok-name.name ps (place_of c.read_params.new.c)) kept) ∙ c.in_ok-result.ensures.gave) in
-    let f-result = c.in_ok-result.ensures.file ∙ f-params in
-    let a-height = moved (λ x. at_most x max_height (place_of c.read_result.new.c)) f-result c.in_ok-height.ensures.gave in
-    let f-height = c.in_ok-height.ensures.file ∙ f-result in
-    let a-extras = moved (λ x. extras_at x (length ps) (place_of c.at_most.new.c)) f-height
+    let f_result = c.in_ok-result.ensures.file ∙ f_params in
+    let a_height = moved (λ x. at_most x max_height (place_of c.read_result.new.c)) f_result c.in_ok-height.ensures.gave in
+    let f_height = c.in_ok-height.ensures.file ∙ f_result in
+    let a_extras = moved (λ x. extras_at x (length ps) (place_of c.at_most.new.c)) f_height
     (ap (λ k. extras_at (file_of c.at_most.new.c) k (place_of c.at_most.new.c)) (length_part c.in_ok-params.params (params_of c.read_params.new.t) (behind_within c.in_ok-params.ensures.gave.1)) ∙ c.in_ok-extras.ensures.gave) in
-    let f-extras = c.in_ok-extras.ensures.file ∙ f-height in
-    let a-code = moved (λ x. code_at x (program_code (program_of t) + count_code (mine c.args.first t)) (place_of c.read_more.new.c)) f-extras
+    let f_extras = c.in_ok-extras.ensures.file ∙ f_height in
+    let a_code = moved (λ x. code_at x (program_code (program_of t) + count_code (mine c.args.first t)) (place_of c.read_more.new.c)) f_extras
     (sym (ap (λ k. code_at (file_of c.read_more.new.c) k (place_of c.read_more.new.c)) (ap length c.in_ok-params.ensures.rest.instrs ∙ c.requires.tallied.code)) ∙ c.in_ok-code.ensures.gave.0) in
-    let f_code = c.in_ok-code.ensures.file ∙ f-extras in
-    let a-handlers = moved (λ x. handlers_at x (program_handlers (program_of t) + count_handlers (mine c.args.first t)) (place_of c.read_code.new.c)) f_code
+    let f_code = c.in_ok-code.ensures.file ∙ f_extras in
+    let a_handlers = moved (λ x. handlers_at x (program_handlers (program_of t) + count_handlers (mine c.args.first t)) (place_of c.read_code.new.c)) f_code
     (sym (ap (λ k. handlers_at (file_of c.read_code.new.c) k (place_of c.read_code.new.c)) (ap length (c.in_ok-code.ensures.rest.handlers ∙ c.in_ok-params.ensures.rest.handlers) ∙ c.requires.tallied.handlers)) ∙ c.in_ok-handlers.ensures.gave.0) in
     let u = c.push_method.new.t in
-    let o-params = c.in_ok-params.ensures.rest in
-    let o-code = c.in_ok-code.ensures.rest in
-    let o-handlers = c.in_ok-handlers.ensures.rest in
-    let o-push = c.push_method.ensures.rest in
-    let e-params = o-push.params ∙ (o-handlers.params ∙ o-code.params) in
-    let e-code = o-push.instrs ∙ o-handlers.instrs in
-    let classes = o-push.classes ∙ (o-handlers.classes ∙ (o-code.classes ∙ o-params.classes)) in
-    let fields = o-push.fields ∙ (o-handlers.fields ∙ (o-code.fields ∙ o-params.fields)) in
+    let o_params = c.in_ok-params.ensures.rest in
+    let o_code = c.in_ok-code.ensures.rest in
+    let o_handlers = c.in_ok-handlers.ensures.rest in
+    let o_push = c.push_method.ensures.rest in
+    let e_params = o_push.params ∙ (o_handlers.params ∙ o_code.params) in
+    let e_code = o_push.instrs ∙ o_handlers.instrs in
+    let classes = o_push.classes ∙ (o_handlers.classes ∙ (o_code.classes ∙ o_params.classes)) in
+    let fields = o_push.fields ∙ (o_handlers.fields ∙ (o_code.fields ∙ o_params.fields)) in
     let m : MethodRec =
     record {
       name = c.in_ok-name.name;
@@ -205,15 +205,15 @@ returns c =
       code = c.in_ok-code.code;
       handlers = c.in_ok-handlers.handlers;
     } in
-    let methods = c.push_method.ensures.methods ∙ ap (λ xs. xs ++ m ∷ []) (o-handlers.methods ∙ (o-code.methods ∙ o-params.methods)) in
-    let b-params = behind_as refl e-params c.in_ok-params.ensures.gave.1 in
-    let b-code = behind_as (sym o-params.instrs) e-code c.in_ok-code.ensures.gave.1 in
-    let b-handlers = behind_as (sym (o-code.handlers ∙ o-params.handlers)) o-push.handlers c.in_ok-handlers.ensures.gave.1 in
+    let methods = c.push_method.ensures.methods ∙ ap (λ xs. xs ++ m ∷ []) (o_handlers.methods ∙ (o_code.methods ∙ o_params.methods)) in
+    let b_params = behind_as refl e_params c.in_ok-params.ensures.gave.1 in
+    let b_code = behind_as (sym o_params.instrs) e_code c.in_ok-code.ensures.gave.1 in
+    let b_handlers = behind_as (sym (o_code.handlers ∙ o_params.handlers)) o_push.handlers c.in_ok-handlers.ensures.gave.1 in
     record {
       file = c.in_ok-handlers.ensures.file ∙ f_code;
-      tallied = tallied_more t u m classes fields methods b-params b-code b-handlers c.args.first c.requires.tallied c.in_ok-params.ensures.most;
-      more = method_more t u m classes fields methods b-params b-code b-handlers;
-      gave = one_more file c.args.n (program_of t) c.args.s (mine c.args.first t) (place_of c.args.c.now) _ _ a-name _ _ a-params _ _ a-result _ _ a-height _ _ a-extras _ _ a-code _ _ a-handlers
-          ∙ (ap (λ x. Ok (mine c.args.first t ++ x ∷ [], place_of c.read_handlers.new.c)) (sym (view_as e-params e-code o-push.handlers m))
-          ∙ ap (λ xs. Ok (xs, place_of c.read_handlers.new.c)) (sym (mine_more t u m classes fields methods b-params b-code b-handlers c.args.first c.requires.tallied)));
+      tallied = tallied_more t u m classes fields methods b_params b_code b_handlers c.args.first c.requires.tallied c.in_ok-params.ensures.most;
+      more = method_more t u m classes fields methods b_params b_code b_handlers;
+      gave = one_more file c.args.n (program_of t) c.args.s (mine c.args.first t) (place_of c.args.c.now) _ _ a_name _ _ a_params _ _ a_result _ _ a_height _ _ a_extras _ _ a_code _ _ a_handlers
+          ∙ (ap (λ x. Ok (mine c.args.first t ++ x ∷ [], place_of c.read_handlers.new.c)) (sym (view_as e_params e_code o_push.handlers m))
+          ∙ ap (λ xs. Ok (xs, place_of c.read_handlers.new.c)) (sym (mine_more t u m classes fields methods b_params b_code b_handlers c.args.first c.requires.tallied)));
     }

@@ -28,8 +28,8 @@ returns-then-i-start c =
     let e : start ≡ length (fields_within P c.loop-own.left c.loop-own.at) - length (own_fields P c.loop-own.at) = omega (arith, c.loop-own.invariant.0) in
     let here : slice_get (fields_within P c.loop-own.left c.loop-own.at) c.args.i ≡ slice_get (own_fields P c.loop-own.at) (c.args.i - start) =
     nth_row_own P c.loop-own.left c.loop-own.at c.args.i start e c.if-i-start.true in
-    let in-own : c.args.i - start < length c.own_fields-own.result.now = omega (arith, c.loop-own.invariant.1) in
-    sym (sym c.loop-own.invariant.2 ∙ here ∙ ap (λ xs. slice_get xs (c.args.i - start)) (sym c.own_fields-own.ensures.fields) ∙ slice_get-get_or c.own_fields-own.result.now (c.args.i - start) _ in-own)
+    let in_own : c.args.i - start < length c.own_fields-own.result.now = omega (arith, c.loop-own.invariant.1) in
+    sym (sym c.loop-own.invariant.2 ∙ here ∙ ap (λ xs. slice_get xs (c.args.i - start)) (sym c.own_fields-own.ensures.fields) ∙ slice_get-get_or c.own_fields-own.result.now (c.args.i - start) _ in_own)
 
 pub loop-own-preserved : goal.loop-own-preserved
 loop-own-preserved c =
