@@ -5,8 +5,9 @@ usage: python3 tools/respell.py      at the top of the repository
 
 The pairs of old and new names stand in tools/respelled.tsv. Names are turned in the .rt and .antt files of crates/,
 outside comments and string literals; nothing else is touched. A file that brings in `AllByRecursion as All` writes
-`AllByRecursion` instead, since `All` is another word of the library. It runs once, right after the library's own
-scripts: proof files written later cite names that are made from the code, which it would turn too.
+`AllByRecursion` instead, since `All` is another word of the library, and definitions of specs/ write `nat_le` and `nat_lt`
+for the same functions' older names. It runs once, right after the library's own scripts: proof files written later cite
+names that are made from the code, which it would turn too.
 """
 import os
 import re
@@ -14,6 +15,7 @@ import re
 HERE = os.path.dirname(os.path.abspath(__file__))
 NAME = re.compile(r"[^\s(){}\[\],.;|⌜⌝∥«»\"]+")
 RENAMED = {"AllByRecursion": "All"}
+OLDER = {"leb": "nat_le", "ltb": "nat_lt"}
 SKIPPED = {".antt": re.compile(r"--(?=\s|$).*$"), ".rt": re.compile(r"//.*$|b?\"(?:[^\"\\]|\\.)*\"")}
 
 
@@ -51,7 +53,8 @@ def main():
             new = text
             for old, full in imports:
                 new = new.replace(old, full)
-            new = "\n".join(turned(line, here, skipped) for line in new.split("\n"))
+            tests = {**here, **OLDER} if "/specs/" in path else here
+            new = "\n".join(turned(line, here if line.startswith("use ") else tests, skipped) for line in new.split("\n"))
             if new != text:
                 with open(path, "w", encoding="utf-8") as f:
                     f.write(new)
