@@ -1,6 +1,7 @@
 -- Types by their numbers. Assumes nothing.
-use Rattle.std.specs.Prelude.{ℕ, zero, suc, ◌+◌, Bool, true, false, ◌&&◌, List, [], ◌∷◌, ◌==◌, nat_lt}
+use Rattle.std.specs.Prelude.{◌≡◌, ◌≤◌, ◌<◌, Result, MatchResult, ℕ, zero, suc, ◌+◌, Bool, true, false, ◌&&◌, List, [], ◌∷◌, ◌==◌, nat_lt}
 use Rattle.jinja.specs.declared.ty.Ty.{Ty}
+use Rattle.jinja.specs.declared.ty.NoType.{NoType}
 use Rattle.jinja.specs.declared.ty.Ty.TheVariants.{Void, Boolean, Integer, NullType, Class}
 
 -- the number by which a file names a type
@@ -17,6 +18,14 @@ type_of_number (suc zero) = Boolean
 type_of_number (suc (suc zero)) = Integer
 type_of_number (suc (suc (suc zero))) = NullType
 type_of_number (suc (suc (suc (suc c)))) = Class c
+
+-- the greatest number of a type
+abbrev pub largest_type : ℕ
+largest_type = 259
+
+-- what reading the number of a type answers: the type, or that there is none
+abbrev pub Numbered : ℕ → Result Ty NoType → Type 0
+Numbered n r = MatchResult r (λ t. (n ≤ largest_type) × (t ≡ type_of_number n)) (λ e. (largest_type < n) × (e.0 ≡ n))
 
 abbrev pub same_type : Ty → Ty → Bool
 same_type t u = type_number t == type_number u

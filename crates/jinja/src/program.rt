@@ -7,6 +7,17 @@ pub type Name = u8;
 /// A class: 0 to 3 are Object, NullPointer, ClassCast and OutOfMemory, and a program's own count from 4.
 pub type ClassNumber = u8;
 
+/// The top of all classes, that lies under itself.
+pub const OBJECT: ClassNumber = 0;
+/// The class of what is thrown where a reference is Null.
+pub const NULL_POINTER: ClassNumber = 1;
+/// The class of what a cast throws.
+pub const CLASS_CAST: ClassNumber = 2;
+/// The class of what is thrown where a heap takes no object.
+pub const OUT_OF_MEMORY: ClassNumber = 3;
+/// How many classes are built in.
+pub const BUILT_IN: usize = 4;
+
 /// A field that a class declares.
 #[derive(Clone, Copy, PartialEq, Eq, Debug)]
 pub struct Field {
