@@ -1,0 +1,2 @@
+-- What a list in fixed memory holds.
+pub mod Items
