@@ -9,3 +9,4 @@ mod methods;
 mod parts;
 pub mod records;
 pub mod tables;
+mod types;
