@@ -4,6 +4,14 @@
 ghost use Rattle.std.specs.Prelude.{◌≡◌, ◌≤◌, min, length};
 ghost use Rattle.stack.specs.Stacked.{Pushed, Popped, Seen, Discarded, Replaced};
 
+/// Every cell is taken: a push was refused, and nothing changed.
+#[derive(Clone, Copy, PartialEq, Eq, Debug)]
+pub struct Full;
+
+/// Fewer cells are held than were to go: a call was refused, and nothing changed.
+#[derive(Clone, Copy, PartialEq, Eq, Debug)]
+pub struct TooFew;
+
 /// A stack in the first `height` of its cells, the bottom first.
 #[derive(Drop)]
 pub struct Stack<'a, T> {
@@ -30,8 +38,8 @@ impl<'a, T: Copy> Stack<'a, T> {
         self.height
     }
 
-    /// Puts `x` on top. False, and nothing changes, where every cell is taken.
-    pub fn push(&mut self, x: T) -> bool
+    /// Puts `x` on top. `Full` where every cell is taken.
+    pub fn push(&mut self, x: T) -> Result<(), Full>
         ensures pushed { Pushed self.old.cells.now self.old.height x self.new.cells.now self.new.height result }
         ensures same { self.new.cells.ghost_name ≡ self.old.cells.ghost_name }
     {
@@ -39,9 +47,9 @@ impl<'a, T: Copy> Stack<'a, T> {
         if h < self.cells.len() {
             self.cells[h] = x;
             self.height = h + 1;
-            true
+            Ok(())
         } else {
-            false
+            Err(Full)
         }
     }
 
@@ -50,9 +58,7 @@ impl<'a, T: Copy> Stack<'a, T> {
         ensures popped { Popped self.old.cells.now self.old.height self.new.cells.now self.new.height result }
         ensures same { self.new.cells.ghost_name ≡ self.old.cells.ghost_name }
     {
-        let Some(x) = self.peek() else {
-            return None;
-        };
+        let x = self.peek()?;
         self.height -= 1;
         Some(x)
     }
@@ -76,30 +82,30 @@ impl<'a, T: Copy> Stack<'a, T> {
         Some(cells[h - 1 - i])
     }
 
-    /// Lets the `n` topmost cells go. False, and nothing changes, where fewer are held.
-    pub fn discard(&mut self, n: usize) -> bool
+    /// Lets the `n` topmost cells go. `TooFew` where fewer are held.
+    pub fn discard(&mut self, n: usize) -> Result<(), TooFew>
         ensures discarded { Discarded self.old.cells.now self.old.height n self.new.cells.now self.new.height result }
         ensures same { self.new.cells.ghost_name ≡ self.old.cells.ghost_name }
     {
         let h = self.height;
         if n > h {
-            return false;
+            return Err(TooFew);
         }
         self.height = h - n;
-        true
+        Ok(())
     }
 
-    /// Puts `x` in place of the top. False, and nothing changes, where nothing is held.
-    pub fn replace(&mut self, x: T) -> bool
+    /// Puts `x` in place of the top. `TooFew` where nothing is held.
+    pub fn replace(&mut self, x: T) -> Result<(), TooFew>
         ensures replaced { Replaced self.old.cells.now self.old.height x self.new.cells.now self.new.height result }
         ensures same { self.new.cells.ghost_name ≡ self.old.cells.ghost_name }
     {
         let h = self.height;
         if h == 0 {
-            return false;
+            return Err(TooFew);
         }
         self.cells[h - 1] = x;
-        true
+        Ok(())
     }
 }
 

@@ -8,9 +8,8 @@ fn merge(cells: &mut [u16], height: usize, t: u16) -> Option<usize>
     ensures { MatchOption result ((min height (length cells.old) < 2) × (cells.new ≡ cells.old)) (λ k. (k + 1 ≡ min height (length cells.old)) × (cells.new ≡ slice_set cells.old (k - 1) t)) }
 {
     let mut s = Stack::over(cells, height);
-    if !s.discard(2) || !s.push(t) {
-        return None;
-    }
+    s.discard(2).ok()?;
+    s.push(t).ok()?;
     Some(s.height())
 }
 
@@ -41,9 +40,8 @@ fn replace_and_push(
     x: Value,
 ) -> Option<(Value, Value)> {
     let mut s = Stack::over(cells, height);
-    if !s.replace(top) || !s.push(x) {
-        return None;
-    }
+    s.replace(top).ok()?;
+    s.push(x).ok()?;
     let below = s.below(1)?;
     Some((s.pop()?, below))
 }

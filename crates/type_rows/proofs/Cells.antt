@@ -2,6 +2,7 @@
 use Rattle.std.proofs.Common.{◌≡◌, ℕ, zero, suc, ◌+◌, ◌-◌, ◌<◌, ◌≤◌, Bool, true, false, ltb, List, [], ◌∷◌, map, length, get_or, take, drop, set, Some, None, Option, sym, refl, ap, ◌∙◌, ⊎_elim, arith, length-set}
 use Rattle.std.proofs.lemmas.List.{get_or-reverse, get_or-drop, get_or_past, drop-map, length-reverse, length-map, length-take-le}
 use Rattle.std.proofs.lemmas.Bool.{cases_lt, lt-ltb, le-ltb, eq-eqb, ne_eqb}
+use Rattle.std.specs.Prelude.{Ok, Err, Result, is_ok}
 use Rattle.std.specs.List.{slice_get}
 use Rattle.jinja.specs.declared.ty.Ty.{Ty}
 use Rattle.jinja.specs.Types.{type_of_number}
@@ -42,14 +43,14 @@ small_set (x ∷ xs) (suc i) n s l (suc k) = small_set xs i n (λ j. s (suc j)) 
 pub types_height : (xs : List ℕ) (h : ℕ) → h ≤ length xs → length (types_in xs h) ≡ h
 types_height xs h l = length-map (held xs h) type_of_number ∙ length-reverse (take h xs) ∙ length-take-le h xs l
 
-pub record PushedType (xs : List ℕ) (h : ℕ) (ys : List ℕ) (k : ℕ) (r : Bool) (limit : ℕ) (t : Ty) : Type 0 where
-  pub told : r ≡ ltb (length (types_in xs h)) limit
+pub record PushedType {E : Type 0} (xs : List ℕ) (h : ℕ) (ys : List ℕ) (k : ℕ) (r : Result (Unit {0}) E) (limit : ℕ) (t : Ty) : Type 0 where
+  pub told : is_ok r ≡ ltb (length (types_in xs h)) limit
   pub pushed : types_in ys k ≡ t ∷ types_in xs h
   pub small : Small ys
   pub long : length ys ≡ length xs
 
-pub pushed_type : (xs : List ℕ) (h n : ℕ) (ys : List ℕ) (k : ℕ) (r : Bool) (limit : ℕ) (t : Ty) → Small xs → limit ≤ length xs → h < limit → n ≤ largest → type_of_number n ≡ t → Pushed xs h n ys k r → PushedType xs h ys k r limit t
-pushed_type xs h n ys k true limit t s room l small back p =
+pub pushed_type : {E : Type 0} (xs : List ℕ) (h n : ℕ) (ys : List ℕ) (k : ℕ) (r : Result (Unit {0}) E) (limit : ℕ) (t : Ty) → Small xs → limit ≤ length xs → h < limit → n ≤ largest → type_of_number n ≡ t → Pushed xs h n ys k r → PushedType xs h ys k r limit t
+pushed_type xs h n ys k (Ok _) limit t s room l small back p =
     let e = types_height xs h (omega arith) in
     record {
       told = sym (lt-ltb _ _ (omega arith));
@@ -57,7 +58,7 @@ pushed_type xs h n ys k true limit t s room l small back p =
       small = λ j. rw p.2 (small_set xs h n s small j);
       long = ap length p.2 ∙ length-set xs h n;
     }
-pushed_type xs h n ys k false limit t s room l small back p = absurd (omega (arith, p.0))
+pushed_type xs h n ys k (Err _) limit t s room l small back p = absurd (omega (arith, p.0))
 
 -- at the limit or above
 pub not_pushed : (xs : List ℕ) (h limit : ℕ) → h ≤ length xs → limit ≤ h → false ≡ ltb (length (types_in xs h)) limit
@@ -91,12 +92,12 @@ pub told_same : (r : Option Leads) (pc : ℕ) (s : Stack ℕ) (xs : List ℕ) (h
 told_same r pc s xs h lt e f = rw (e, f)
 
 -- a push onto the lowest cells, when the stack is gone
-pub covered : (xs : List ℕ) (h n : ℕ) (ys : List ℕ) (k : ℕ) (r : Bool) (t : Ty) (depth : ℕ) (out : List ℕ) → Small xs → length xs ≡ 16 → h ≡ depth → depth < 16 → n ≤ largest → type_of_number n ≡ t → Pushed xs h n ys k r → out ≡ ys → (types_in out (depth + 1) ≡ t ∷ types_in xs depth) × Small out
-covered xs h n ys k true t depth out s long e l small back p q =
-    let x = pushed_type xs h n ys k true 16 t s (omega arith) (omega arith) small back p in
+pub covered : {E : Type 0} (xs : List ℕ) (h n : ℕ) (ys : List ℕ) (k : ℕ) (r : Result (Unit {0}) E) (t : Ty) (depth : ℕ) (out : List ℕ) → Small xs → length xs ≡ 16 → h ≡ depth → depth < 16 → n ≤ largest → type_of_number n ≡ t → Pushed xs h n ys k r → out ≡ ys → (types_in out (depth + 1) ≡ t ∷ types_in xs depth) × Small out
+covered {E} xs h n ys k (Ok u) t depth out s long e l small back p q =
+    let x = pushed_type {E = E} xs h n ys k (Ok u) 16 t s (omega arith) (omega arith) small back p in
     let z : depth + 1 ≡ k = omega (arith, p.1) in
     (ap (λ (a : List ℕ). types_in a (depth + 1)) q ∙ ap (types_in ys) z ∙ x.pushed ∙ ap (λ (a : ℕ). t ∷ types_in xs a) e, small_same out ys q x.small)
-covered xs h n ys k false t depth out s long e l small back p q = absurd (omega (arith, p.0))
+covered xs h n ys k (Err _) t depth out s long e l small back p q = absurd (omega (arith, p.0))
 
 -- the lowest types of a stack are those of its lowest cells
 pub lowest_types : (xs : List ℕ) (h d : ℕ) → h ≤ length xs → d ≤ h → lowest d (types_in xs h) ≡ types_in xs d

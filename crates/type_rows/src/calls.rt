@@ -154,5 +154,5 @@ fn discard(stack: &mut Stack<u16>, n: usize) -> bool
     ensures cells { stack.new.cells.now ≡ stack.old.cells.now }
     ensures same { stack.new.cells.ghost_name ≡ stack.old.cells.ghost_name }
 {
-    stack.discard(n)
+    stack.discard(n).is_ok()
 }

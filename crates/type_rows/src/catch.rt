@@ -41,5 +41,5 @@ fn cover(cells: &mut [u16], depth: usize, class: ClassNumber)
     ensures small { Small cells.new }
 {
     let mut stack = Stack::over(cells, depth);
-    stack.push(number_of(Ty::Class(class)));
+    let _ = stack.push(number_of(Ty::Class(class)));
 }

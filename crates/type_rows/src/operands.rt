@@ -32,7 +32,7 @@ pub fn push(stack: &mut Stack<u16>, limit: usize, t: Ty) -> bool
     ensures same { stack.new.cells.ghost_name ≡ stack.old.cells.ghost_name }
 {
     if stack.height() < limit {
-        stack.push(number_of(t))
+        stack.push(number_of(t)).is_ok()
     } else {
         false
     }

@@ -1,5 +1,5 @@
 -- Below the limit there is a cell to push into.
-use Rattle.std.proofs.Common.{◌<◌, ◌≤◌, refl, arith}
+use Rattle.std.proofs.Common.{◌<◌, ◌≤◌, refl, ◌∙◌, arith}
 use Rattle.jinja.proofs.Options.{false_true}
 use Rattle.type_rows.proofs.Cells.{pushed_type, not_pushed}
 use Rattle.type_rows.proofs.operands.push.Goals as goal
@@ -11,7 +11,7 @@ returns-then-height-limit c =
     let low : s.height < c.args.limit = omega (arith, c.if-height-limit.true) in
     let e = c.number_of.ensures in
     let p = pushed_type s.cells.now s.height c.number_of.result _ _ c.push.result c.args.limit c.args.t c.requires.small c.requires.room low e.small e.back c.push.ensures.pushed in
-    record { told = p.told; pushed = λ t. p.pushed; small = p.small; long = p.long; same = c.push.ensures.same }
+    record { told = c.is_ok.ensures.value ∙ p.told; pushed = λ t. p.pushed; small = p.small; long = p.long; same = c.push.ensures.same }
 
 pub returns-else-height-limit : goal.returns-else-height-limit
 returns-else-height-limit c =
