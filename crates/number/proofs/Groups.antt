@@ -1,18 +1,7 @@
--- One group of a number: what reading it says, and that its sum fits 32 bits.
-use Rattle.std.proofs.Common.{◌≡◌, ℕ, ◌+◌, ◌-◌, ◌*◌, ◌^◌, ◌<◌, ◌≤◌, cond, ltb, ◌⊎◌, List, length, get_or, drop, Ok, Err, inl, inr, arith}
+-- One group of a number: its sum fits 32 bits.
+use Rattle.std.proofs.Common.{◌≡◌, ℕ, ◌+◌, ◌*◌, ◌^◌, ◌<◌, ◌≤◌, ◌⊎◌, inl, inr, arith}
 use native.Mathlib.Nat.{pow-le-pow_right}
 use Rattle.std.proofs.lemmas.Nat.{mul-le}
-use Rattle.std.proofs.lemmas.List.{at_drop_more}
-use Rattle.number.specs.Numbers.{groups, oversize_at, padding_at}
-use Rattle.number.specs.declared.fault.NumberFault.TheVariants.{Padded, Oversize}
-
--- one more group
-pub turn : (s g v m at : ℕ) (file : List ℕ) → at < length file → groups s g v m at (drop at file) ≡
-    cond (oversize_at g (get_or file at 0)) (Err (Oversize s))
-    (cond (ltb (get_or file at 0) 128)
-    (cond (padding_at g (get_or file at 0)) (Err (Padded s)) (Ok (v + m * get_or file at 0, at + 1)))
-    (groups s (g + 1) (v + m * (get_or file at 0 - 128)) (m * 128) (at + 1) (drop (at + 1) file)))
-turn s g v m at file h = at_drop_more (groups s g v m at) file at 0 h
 
 pub scale_whole : (g m : ℕ) → m ≡ 128 ^ g → g ≤ 4 → m ≤ 2 ^ 28
 scale_whole g m e h = let p : 128 ^ g ≤ 128 ^ 4 = pow-le-pow_right (omega arith) h in omega (arith, p)

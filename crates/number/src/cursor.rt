@@ -1,7 +1,6 @@
 // A place in a borrowed file, from which numbers are read one after another.
-ghost use Rattle.std.specs.Prelude.{◌≡◌, true, length, is_err, nat_le};
+ghost use Rattle.std.specs.Prelude.{◌≡◌, ◌≤◌, true, length, is_err, nat_le, IfOk};
 ghost use Rattle.number.specs.Numbers.{number_at, oversize_at, padding_at, Gave};
-ghost use Rattle.number.specs.Places.{file_of, place_of};
 
 use crate::fault::NumberFault;
 use crate::limits::{GROUP_VALUES, MAX_GROUPS, MORE, TOP_GROUP_VALUES};
@@ -11,9 +10,12 @@ use crate::limits::{GROUP_VALUES, MAX_GROUPS, MORE, TOP_GROUP_VALUES};
 pub struct Cursor<'a> {
     file: &'a [u8],
     place: usize,
+    ghost within: { place ≤ length file.now },
 }
 
 impl<'a> Cursor<'a> {
+    ghost use Rattle.number.specs.Places.{file_of, place_of};
+
     /// A cursor at the first byte of the file.
     pub fn new(file: &'a [u8]) -> Cursor<'a>
         ensures file { file_of result ≡ file.now }
@@ -53,16 +55,14 @@ impl<'a> Cursor<'a> {
 
 // The number that begins at `start`, and the place behind it.
 fn number_from(file: &[u8], start: usize) -> Result<(u32, usize), NumberFault>
-    ensures { result ≡ number_at file.now start }
+    requires { start ≤ length file.now }
+    ensures number { result ≡ number_at file.now start }
+    ensures within { IfOk result (λ r. r.1 ≤ length file.now) }
 {
-    let mut at = start;
+    let rest = &file[start..];
     let mut value: u32 = 0;
     let mut scale: u32 = 1;
-    for group in 0..MAX_GROUPS {
-        if at >= file.len() {
-            return Err(NumberFault::Cut(start));
-        }
-        let b = file[at];
+    for (group, &b) in rest.iter().enumerate() {
         if oversized(group, b) {
             return Err(NumberFault::Oversize(start));
         }
@@ -70,24 +70,23 @@ fn number_from(file: &[u8], start: usize) -> Result<(u32, usize), NumberFault>
             if padding(group, b) {
                 return Err(NumberFault::Padded(start));
             }
-            return Ok((value + scale * u32::from(b), at + 1));
+            return Ok((value + scale * u32::from(b), start + group + 1));
         }
         value += scale * u32::from(b - MORE);
         scale *= GROUP_VALUES;
-        at += 1;
     }
-    unreachable()
+    Err(NumberFault::Cut(start))
 }
 
 // Whether the byte `b`, with `group` groups before it, says more than the bits that are left of 32.
-fn oversized(group: u8, b: u8) -> bool
+fn oversized(group: usize, b: u8) -> bool
     ensures { result ≡ oversize_at group b }
 {
     group == MAX_GROUPS - 1 && b >= TOP_GROUP_VALUES
 }
 
 // Whether a last byte `b`, with `group` groups before it, could be left out.
-fn padding(group: u8, b: u8) -> bool
+fn padding(group: usize, b: u8) -> bool
     ensures { result ≡ padding_at group b }
 {
     group > 0 && b == 0

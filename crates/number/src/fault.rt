@@ -30,9 +30,8 @@ impl NumberFault {
         ensures { result ≡ number_fault_place self }
     {
         match self {
-            NumberFault::Cut(place) => place,
-            NumberFault::Padded(place) => place,
-            NumberFault::Oversize(place) => place,
+            NumberFault::Cut(place) | NumberFault::Padded(place) | NumberFault::Oversize(place) =>
+                place,
         }
     }
 }

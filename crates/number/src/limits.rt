@@ -7,7 +7,7 @@ pub const GROUP_VALUES: u32 = 128;
 pub const MORE: u8 = 128;
 
 /// How many groups a number has at most.
-pub const MAX_GROUPS: u8 = 5;
+pub const MAX_GROUPS: usize = 5;
 
 /// What the last of so many groups is below: four of 32 bits are left for it.
 pub const TOP_GROUP_VALUES: u8 = 16;

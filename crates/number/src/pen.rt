@@ -10,6 +10,7 @@ use crate::limits::{GROUP_VALUES, MORE};
 pub struct Short;
 
 /// Puts bytes into a slice from its first byte on; a dry pen counts them and changes nothing.
+// One type for both: over two, each function that puts would be generic, with the same clauses.
 #[derive(Drop)]
 pub struct Pen<'a> {
     out: &'a mut [u8],

@@ -1,4 +1,5 @@
-// Signed numbers as numbers: 2z for z from 0 on, and -2z - 1 below 0.
+// Signed numbers as numbers: 2z for z from 0 on, and -2z - 1 below 0. No From: both types are std's, and a newtype would
+// be unwrapped again at each use.
 ghost use Rattle.std.specs.Prelude.{◌≡◌};
 ghost use Rattle.number.specs.Signed.{signed, unsigned};
 
