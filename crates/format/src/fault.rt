@@ -46,12 +46,12 @@ impl TableFault {
     {
         match self {
             TableFault::Number(e) => e.place(),
-            TableFault::Outside(p) => p,
-            TableFault::Unknown(p) => p,
-            TableFault::Classless(p) => p,
-            TableFault::Twice(p) => p,
-            TableFault::Override(p) => p,
-            TableFault::LeftOver(p) => p,
+            TableFault::Outside(p)
+            | TableFault::Unknown(p)
+            | TableFault::Classless(p)
+            | TableFault::Twice(p)
+            | TableFault::Override(p)
+            | TableFault::LeftOver(p) => p,
         }
     }
 }
