@@ -1,5 +1,6 @@
 -- A method is typed or untypable by what the walk over its rows answers. Assumes nothing.
-use Rattle.std.proofs.Common.{◌≡◌, ℕ, ◌≤◌, Some, None, Option, sym, refl, ap, ◌∙◌, subst}
+use Rattle.std.proofs.Common.{◌≡◌, ℕ, ◌≤◌, Some, None, Option, sym, refl, ap, ◌∙◌, subst, arith}
+use Rattle.std.specs.Prelude.{List, length, MatchBool, Ok, Err, Result, is_ok}
 use Rattle.format.proofs.WellFormed.{kept_is_well_formed}
 use Rattle.jinja.specs.Program.{MethodDecl, Program}
 use Rattle.jinja.specs.Lookups.{Owned, method_at}
@@ -11,6 +12,9 @@ use Rattle.tables.proofs.Owners.{methods_numbered}
 use Rattle.tables.proofs.Standing.{method_lacks}
 use Rattle.set.specs.declared.set.Set.{Set}
 use Rattle.set.specs.Sets.{tables_of, set_program}
+use Rattle.walk.specs.declared.unsolved.Unsolved.{Unsolved}
+use Rattle.walk.specs.declared.unsolved.Unsolved.TheVariants.{Refused, Short}
+use Rattle.walk.specs.Answers.{Answers}
 use Rattle.walk.specs.Solution.{Least, Unsolvable}
 use Rattle.type_rows.specs.declared.method.Method.{Method}
 use Rattle.type_rows.specs.Frameworks.{method_stands, method_framework}
@@ -18,6 +22,7 @@ use Rattle.type_rows.specs.Merging.{Merge}
 use Rattle.type_rows.specs.Stepping.{program, owned, MethodOf}
 use Rattle.type_rows.specs.Typings.{rows_of}
 use Rattle.type_rows.proofs.Typings.{typed_by_solving}
+use Rattle.verifier.specs.Limits.{workspace_length}
 use Rattle.verifier.specs.Typable.{Typable}
 use Rattle.verifier.specs.Verdicts.{TypedAt, UntypedAt}
 
@@ -41,6 +46,12 @@ module _ (m : Method) (P : Program) (k : ℕ) (is : MethodOf P k m) where
         subst (λ (Q : Program). typing.Untypable Q (owned m)) is.of_program
         ((typed_by_solving (program m) (owned m) m.number (kept_is_well_formed (program m) m.kept) (method_stands m) m.short).none u);
   }
+
+  -- with room for its rows the walk is solved exactly where the method is typed
+  pub solved_exactly : (ws ws' : List ℕ) → workspace_length ≤ length ws → (r : Result (Unit {0}) Unsolved) → Answers (method_framework m) ws ws' r → MatchBool (is_ok r) (TypedAt P k) (UntypedAt P k)
+  solved_exactly ws ws' room (Ok _) h = solved_typed _ h.2
+  solved_exactly ws ws' room (Err Refused) h = unsolved_untyped h.1
+  solved_exactly ws ws' room (Err Short) h = absurd (let few = m.short in omega (arith, h.0))
 
 none_typed : (P : Program) (k : ℕ) → method_at P k ≡ None → TypedAt P k
 none_typed P k n M e = absurd (conflict (sym n ∙ e))

@@ -6,7 +6,7 @@ ghost use Rattle.verifier.specs.Verdicts.{TypedAt, UntypedAt, FirstUntyped};
 
 use set::set::Set;
 use type_rows::method::Method;
-use walk::{Walked, walk};
+use walk::walk;
 
 // The first method that has no well-typing. What the workspace holds then is of no use.
 pub(crate) fn first_untypable(set: &Set, workspace: &mut [u16]) -> Option<usize>
@@ -27,11 +27,7 @@ fn is_typable(set: &Set, k: usize, workspace: &mut [u16]) -> bool
     ensures { MatchBool result (TypedAt (set_program set.now) k) (UntypedAt (set_program set.now) k) }
 {
     match Method::of(set, k) {
-        Some(method) => match walk(&method, workspace) {
-            Walked::Solved => true,
-            Walked::Refused => false,
-            Walked::Short => false,
-        },
+        Some(method) => walk(&method, workspace).is_ok(),
         None => true,
     }
 }

@@ -8,11 +8,11 @@ ghost use Rattle.walk.specs.Rows.{rest};
 mod analysis;
 mod marks;
 mod rows;
-mod walked;
+mod unsolved;
 mod walking;
 
 pub use analysis::Analysis;
-pub use walked::Walked;
+pub use unsolved::Unsolved;
 use walking::{begin, settle};
 
 /// How many numbers a row has.
@@ -27,27 +27,22 @@ pub const WORKSPACE: usize = NODES * WIDTH;
 /// How many words mark all nodes.
 const WORDS: usize = NODES / marks::BITS;
 
-/// Walks the nodes of `a` until their rows are settled. Afterwards the rows at the front of the workspace are the least
-/// solution; where there is none, they are of no use. A workspace that is too short for them is untouched. What lies
-/// behind the rows stays.
-pub fn walk<A: Analysis>(a: &A, workspace: &mut [u16]) -> Walked
+/// Walks the nodes of `a` until their rows are settled. On `Ok` the rows at the front of the workspace are the least
+/// solution; where there is none, they are of no use. What lies behind the rows stays.
+pub fn walk<A: Analysis>(a: &A, workspace: &mut [u16]) -> Result<(), Unsolved>
     ensures answer { Answers (A.Analysis.framework a.now) workspace.old workspace.new result }
     ensures behind { rest (A.Analysis.framework a.now) workspace.new ≡ rest (A.Analysis.framework a.now) workspace.old }
 {
     let n = a.count();
     if workspace.len() < n * WIDTH {
-        return Walked::Short;
+        return Err(Unsolved::Short);
     }
     if n == 0 {
-        return Walked::Solved;
+        return Ok(());
     }
     begin(a, workspace);
     let mut words = [0u64; WORDS];
     marks::set(&mut words, 0);
     let mut out = [0u16; WIDTH];
-    if settle(a, workspace, &mut out, &mut words) {
-        Walked::Solved
-    } else {
-        Walked::Refused
-    }
+    settle(a, workspace, &mut out, &mut words)
 }

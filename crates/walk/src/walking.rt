@@ -1,5 +1,5 @@
 // The walk: from the rows at the beginning, node by node and edge by edge, until no node is marked.
-ghost use Rattle.std.specs.Prelude.{◌≡◌, ◌+◌, ◌<◌, false, length, MatchBool};
+ghost use Rattle.std.specs.Prelude.{◌≡◌, ◌+◌, ◌<◌, false, length, MatchResult};
 ghost use Rattle.walk.specs.Limits.{all_words};
 ghost use Rattle.walk.specs.Framework.{nodes};
 ghost use Rattle.walk.specs.Solution.{Least, Unsolvable};
@@ -8,6 +8,7 @@ ghost use Rattle.walk.specs.Marks.{marked};
 ghost use Rattle.walk.specs.Walking.{Begun, Raised, Held, Settled, AllSettled, Inside, Midway, NodeDone};
 
 use crate::analysis::Analysis;
+use crate::unsolved::Unsolved;
 use crate::{marks, rows};
 
 /// Writes the rows at the beginning: node 0 has the start, and nothing has reached the others.
@@ -25,8 +26,13 @@ pub fn begin<A: Analysis>(a: &A, workspace: &mut [u16])
     rows::write_start(a, workspace);
 }
 
-/// Looks at marked nodes until none is left; false where one of them refuses its row.
-pub fn settle<A: Analysis>(a: &A, workspace: &mut [u16], out: &mut [u16], words: &mut [u64]) -> bool
+/// Looks at marked nodes until none is left, or until one of them refuses its row.
+pub fn settle<A: Analysis>(
+    a: &A,
+    workspace: &mut [u16],
+    out: &mut [u16],
+    words: &mut [u64],
+) -> Result<(), Unsolved>
     requires room { Room (A.Analysis.framework a.now) workspace.old }
     requires out { OneRow out.old }
     requires words { length words.old ≡ all_words }
@@ -35,17 +41,17 @@ pub fn settle<A: Analysis>(a: &A, workspace: &mut [u16], out: &mut [u16], words:
     requires settled { AllSettled (A.Analysis.framework a.now) (marked words.old) (table (A.Analysis.framework a.now) workspace.old) }
     requires inside { Inside (A.Analysis.framework a.now) (marked words.old) }
     ensures shown { Shown (A.Analysis.framework a.now) workspace.new }
-    ensures answer { MatchBool result (Least (A.Analysis.framework a.now) (table (A.Analysis.framework a.now) workspace.new)) (Unsolvable (A.Analysis.framework a.now)) }
+    ensures answer { MatchResult result (λ _. Least (A.Analysis.framework a.now) (table (A.Analysis.framework a.now) workspace.new)) (λ e. (e ≡ Unsolved.Refused) × Unsolvable (A.Analysis.framework a.now)) }
     ensures behind { rest (A.Analysis.framework a.now) workspace.new ≡ rest (A.Analysis.framework a.now) workspace.old }
 {
     while let Some(i) = marks::first(words) {
         if rows::refuses(a, workspace, i) {
-            return false;
+            return Err(Unsolved::Refused);
         }
         marks::clear(words, i);
         take_edges(a, workspace, out, words, i);
     }
-    true
+    Ok(())
 }
 
 // Takes the edges of node i, until the node itself is marked again.

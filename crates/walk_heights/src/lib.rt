@@ -7,7 +7,7 @@ ghost use Rattle.walk_heights.specs.HeightLaws.{height_framework};
 mod code;
 
 pub use code::Code;
-use walk::{Analysis, Walked, walk};
+use walk::{Analysis, Unsolved, walk};
 
 // 1 + the greatest height, and one more.
 const CLASH: u16 = 18;
@@ -72,7 +72,7 @@ impl<'a> Analysis for Code<'a> {
 }
 
 /// The height before each step, from an empty stack: one row a step, whose first number is 0 or 1 + the height.
-pub fn stack_heights(code: &Code, workspace: &mut [u16]) -> Walked
+pub fn stack_heights(code: &Code, workspace: &mut [u16]) -> Result<(), Unsolved>
     ensures { Answers (height_framework code.now.steps.now code.now.few) workspace.old workspace.new result }
 {
     walk(code, workspace)

@@ -7,10 +7,7 @@ const NEXT: u16 = PUSH;
 fn paths_agree(rt: HostRuntime) {
     let steps = [NEXT, NEXT, 1, NEXT];
     let mut workspace = [9u16; 133];
-    assert_eq!(rt;
-        stack_heights(&Code::new(&steps), &mut workspace),
-        Walked::Solved
-    );
+    assert_eq!(rt; stack_heights(&Code::new(&steps), &mut workspace), Ok(()));
     assert_eq!(rt;
         [
             workspace[0],
@@ -29,7 +26,7 @@ fn paths_disagree(rt: HostRuntime) {
     let mut workspace = [9u16; 99];
     assert_eq!(rt;
         stack_heights(&Code::new(&steps), &mut workspace),
-        Walked::Refused
+        Err(Unsolved::Refused)
     );
 }
 
@@ -38,7 +35,7 @@ fn nothing_to_take(rt: HostRuntime) {
     let mut workspace = [9u16; 33];
     assert_eq!(rt;
         stack_heights(&Code::new(&[0]), &mut workspace),
-        Walked::Refused
+        Err(Unsolved::Refused)
     );
 }
 
@@ -47,7 +44,7 @@ fn no_room(rt: HostRuntime) {
     let mut workspace = [9u16; 32];
     assert_eq!(rt;
         stack_heights(&Code::new(&[NEXT]), &mut workspace),
-        Walked::Short
+        Err(Unsolved::Short)
     );
     assert_eq!(rt; workspace, [9; 32]);
 }
