@@ -12,6 +12,7 @@ mod unsolved;
 mod walking;
 
 pub use analysis::Analysis;
+use marks::Marks;
 pub use unsolved::Unsolved;
 use walking::{begin, settle};
 
@@ -23,9 +24,6 @@ pub const NODES: usize = 256;
 
 /// How many numbers the rows of all nodes have.
 pub const WORKSPACE: usize = NODES * WIDTH;
-
-/// How many words mark all nodes.
-const WORDS: usize = NODES / marks::BITS;
 
 /// Walks the nodes of `a` until their rows are settled. On `Ok` the rows at the front of the workspace are the least
 /// solution; where there is none, they are of no use. What lies behind the rows stays.
@@ -41,8 +39,8 @@ pub fn walk<A: Analysis>(a: &A, workspace: &mut [u16]) -> Result<(), Unsolved>
         return Ok(());
     }
     begin(a, workspace);
-    let mut words = [0u64; WORDS];
-    marks::set(&mut words, 0);
+    let mut marks = Marks::none();
+    marks.set(0);
     let mut out = [0u16; WIDTH];
-    settle(a, workspace, &mut out, &mut words)
+    settle(a, workspace, &mut out, &mut marks)
 }

@@ -11,13 +11,12 @@ take_edges-requires g c =
     let m = g.A.Analysis.framework c.args.a.now in
     let v = c.loop-i.invariant in
     let i = c.in-Some.i in
-    let d = marked c.loop-i.words in
+    let d = marked c.loop-i.marks.words in
     let t = c.clear.ensures in
-    let d' = marked c.clear.new.words in
+    let d' = marked c.clear.new.self.words in
     record {
       node = v.3 i c.in-Some.ensures;
       room = omega arith;
-      words = c.clear.auto.words ∙ c.loop-i.auto.words ∙ c.requires.words;
       out = omega arith;
       shown = v.0;
       held = v.1;
@@ -32,6 +31,6 @@ loop-i-smaller g c =
     let i = c.in-Some.i in
     let at = c.in-Some.ensures in
     let t = c.clear.ensures in
-    let falls = weight_clear m (table m c.loop-i.workspace) (marked c.loop-i.words) (marked c.clear.new.words) i (v.3 i at) at t.here t.other in
+    let falls = weight_clear m (table m c.loop-i.workspace) (marked c.loop-i.marks.words) (marked c.clear.new.self.words) i (v.3 i at) at t.here t.other in
     let less = c.take_edges.ensures.done.less in
     omega arith

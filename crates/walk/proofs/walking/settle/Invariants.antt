@@ -9,7 +9,7 @@ abbrev pub invariant-loop-i : goal.invariant-loop-i
 invariant-loop-i g l =
     let m = g.A.Analysis.framework l.a in
     let T = table m l.workspace in
-    Shown m l.workspace × Held m T × AllSettled m (marked l.words) T × Inside m (marked l.words) × (rest m l.workspace ≡ rest m l.initial.workspace)
+    Shown m l.workspace × Held m T × AllSettled m (marked l.marks.words) T × Inside m (marked l.marks.words) × (rest m l.workspace ≡ rest m l.initial.workspace)
 
 abbrev pub decreases-loop-i : goal.decreases-loop-i
-decreases-loop-i g l = let m = g.A.Analysis.framework l.a in weight m (table m l.workspace) (marked l.words)
+decreases-loop-i g l = let m = g.A.Analysis.framework l.a in weight m (table m l.workspace) (marked l.marks.words)

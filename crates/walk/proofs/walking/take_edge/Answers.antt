@@ -10,7 +10,6 @@ raise-requires g c =
     record {
       node = edge_inside m p.held p.settled p.inside p.node p.clean p.edge c.in-Some.ensures.sends;
       room = p.room;
-      words = p.words;
       shown = p.shown;
       other = c.in-Some.ensures.shows;
     }

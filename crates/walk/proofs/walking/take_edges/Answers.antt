@@ -19,7 +19,6 @@ take_edge-requires g c =
       node = c.requires.node;
       edge = rw (sym c.edges-m.ensures) c.loop-e-test.true;
       room = omega arith;
-      words = omega arith;
       out = omega arith;
       shown = v.0;
       clean = sym c.has.ensures ∙ c.if-has.false;
