@@ -1,5 +1,6 @@
 -- The class and the values of an object, as a heap answers them. Assumes nothing.
-use Rattle.std.proofs.Common.{◌≡◌, ℕ, ◌≤◌, ltb, List, [], ◌∷◌, length, get_or, drop, Some, None, Ok, Err, Option, Result, sym, refl, inl, inr, arith}
+use Rattle.std.proofs.Common.{◌≡◌, ℕ, ◌≤◌, ltb, List, [], ◌∷◌, length, get_or, drop, Some, None, Ok, Err, Option, Result, sym, refl, ap, ◌∙◌, inl, inr, arith}
+use Rattle.std.specs.Result.{result_ok}
 use Rattle.std.specs.List.{slice_get}
 use Rattle.std.proofs.lemmas.Option.{slice_get-get_or, slice_get_past}
 use Rattle.std.proofs.lemmas.Bool.{cases_lt, lt-ltb, le-ltb}
@@ -26,19 +27,13 @@ class_by h a = elim (cases_lt a (length h.objects)) [
   | inr g ↦ rw (le-ltb a (length h.objects) g, slice_get_past h.objects a g)
 ]
 
-answered : {X : Type 0} (o : Option X) (c : X) → ◌≡◌ {A = Result X HeapFault} (Ok c) (maybe o (Err NoObject) (λ c. Ok c)) → Some c ≡ o
-answered None c e = cc
-answered (Some d) c e = cc
+-- without the fault
+answered : {X : Type 0} (o : Option X) {r : Result X HeapFault} → r ≡ maybe o (Err NoObject) (λ c. Ok c) → result_ok r ≡ o
+answered None e = ap result_ok e
+answered (Some x) e = ap result_ok e
 
-refused : {X : Type 0} (o : Option X) (f : HeapFault) → ◌≡◌ {A = Result X HeapFault} (Err f) (maybe o (Err NoObject) (λ c. Ok c)) → None ≡ o
-refused None f e = refl
-refused (Some d) f e = cc
-
-pub class_answered : (h : Meaning) (a c : ℕ) → Ok c ≡ class_answer h a → Some c ≡ class_of h a
-class_answered h a c e = answered (class_of h a) c (rw (class_by h a) at e)
-
-pub class_refused : (h : Meaning) (a : ℕ) (f : HeapFault) → Err f ≡ class_answer h a → None ≡ class_of h a
-class_refused h a f e = refused (class_of h a) f (rw (class_by h a) at e)
+pub class_answered : (h : Meaning) (a : ℕ) {r : Result ℕ HeapFault} → r ≡ class_answer h a → result_ok r ≡ class_of h a
+class_answered h a e = answered (class_of h a) (e ∙ class_by h a)
 
 read_by : (h : Meaning) (a i : ℕ) → read_answer h a i ≡ maybe (value_at h a i) (Err NoObject) (λ v. Ok v)
 read_by h a i = elim (cases_lt a (length h.objects)) [
@@ -51,11 +46,8 @@ read_by h a i = elim (cases_lt a (length h.objects)) [
   | inr g ↦ rw (le-ltb a (length h.objects) g, slice_get_past h.objects a g)
 ]
 
-pub read_answered : (h : Meaning) (a i : ℕ) (v : Value) → Ok v ≡ read_answer h a i → Some v ≡ value_at h a i
-read_answered h a i v e = answered (value_at h a i) v (rw (read_by h a i) at e)
-
-pub read_refused : (h : Meaning) (a i : ℕ) (f : HeapFault) → Err f ≡ read_answer h a i → None ≡ value_at h a i
-read_refused h a i f e = refused (value_at h a i) f (rw (read_by h a i) at e)
+pub read_answered : (h : Meaning) (a i : ℕ) {r : Result Value HeapFault} → r ≡ read_answer h a i → result_ok r ≡ value_at h a i
+read_answered h a i e = answered (value_at h a i) (e ∙ read_by h a i)
 
 module _ (P : Program) (h : Meaning) (x : FieldPlace) (c a : ℕ) where
   pub field_lost : None ≡ class_of h a → None ≡ field_value P h x c a

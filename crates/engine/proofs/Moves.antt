@@ -1,5 +1,6 @@
 -- Moves of the top frame. Assumes nothing.
-use Rattle.std.proofs.Common.{◌≡◌, ℕ, suc, ◌<◌, Bool, true, false, ltb, List, ◌∷◌, length, ◌+ℤ◌, Some, None, Option, sym, refl, ◌∙◌, w32}
+use Rattle.std.proofs.Common.{◌≡◌, ℕ, suc, ◌<◌, true, false, ltb, List, ◌∷◌, length, ◌+ℤ◌, Some, None, Option, sym, refl, ◌∙◌, w32}
+use Rattle.std.specs.Prelude.{⊤}
 use Rattle.std.specs.Int.{int_wrap}
 use Rattle.std.proofs.lemmas.Bool.{lt-ltb}
 use Rattle.heap.specs.declared.value.Value.{Value}
@@ -14,11 +15,11 @@ use Rattle.jinja.specs.Step.{Frame, goes, at_place, with_register, as_integer, g
 use Rattle.engine.specs.Moving.{Onward, sum_of}
 
 -- the push at the end of an instruction
-pub onward_goes : (r : Bool) {height : ℕ} {f g : Frame} {cells : List Value} {v : Value} → Onward height f cells v r g → (M : Owned) → M.method.height ≡ height → (h : Meaning) (rest : List Frame) → (can_push M cells >> going h f (v ∷ cells) rest) ≡ (r >> Some (goes h (g ∷ rest)))
-onward_goes true {height} {f} {g} {cells} {v} o M e h rest =
+pub onward_goes : (r : Option ⊤) {height : ℕ} {f g : Frame} {cells : List Value} {v : Value} → Onward height f cells v r g → (M : Owned) → M.method.height ≡ height → (h : Meaning) (rest : List Frame) → (can_push M cells >> going h f (v ∷ cells) rest) ≡ (r >>= λ _. Some (goes h (g ∷ rest)))
+onward_goes (Some u) {height} {f} {g} {cells} {v} o M e h rest =
     let t : ltb (length cells) M.method.height ≡ true = rw e (sym o.told) in
     rw (t, o.moved refl)
-onward_goes false {height} {f} {g} {cells} {v} o M e h rest =
+onward_goes None {height} {f} {g} {cells} {v} o M e h rest =
     let t : ltb (length cells) M.method.height ≡ false = rw e (sym o.told) in
     rw t
 
@@ -31,7 +32,7 @@ two_found None p F G = refl
 two_found (Some a) None F G = refl
 two_found (Some a) (Some b) F G = refl
 
-pub add_goes : (P : Program) (M : Owned) {height : ℕ} {f g : Frame} {r : Bool} {v w z : Value} {cells : List Value} → two_of f.stack ≡ Some (two v w cells) → Some z ≡ sum_of v w → Onward height f cells z r g → M.method.height ≡ height → (h : Meaning) (rest : List Frame) → exec P IAdd h M f rest ≡ (r >> Some (goes h (g ∷ rest)))
+pub add_goes : (P : Program) (M : Owned) {height : ℕ} {f g : Frame} {r : Option ⊤} {v w z : Value} {cells : List Value} → two_of f.stack ≡ Some (two v w cells) → Some z ≡ sum_of v w → Onward height f cells z r g → M.method.height ≡ height → (h : Meaning) (rest : List Frame) → exec P IAdd h M f rest ≡ (r >>= λ _. Some (goes h (g ∷ rest)))
 add_goes P M {f = f} {r = r} {v = v} {w = w} {cells = cells} e s o m h rest =
     rw e
     (two_found (as_integer v) (as_integer w) (λ a b. value.Int (int_wrap w32 (b +ℤ a))) (λ z. can_push M cells >> going h f (z ∷ cells) rest)

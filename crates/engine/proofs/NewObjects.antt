@@ -79,17 +79,17 @@ module _ (P : Program) (h : Meaning) (c : ℕ) where
       go false t = rw t
 
   module _ (M : Owned) (class : is_class P c ≡ true) where
-    pub new_goes : (fs : List Frame) → 0 < length fs → length (top_stack fs) < M.method.height → {a : ℕ} {g : Meaning} → (Some a, g) ≡ created P h c → (Goes, g, past_with 0 (value.Addr a) fs) ≡ settle h fs (exec_top P (New c) h M fs)
+    pub new_goes : (fs : List Frame) → 0 < length fs → length (top_stack fs) < M.method.height → {a : ℕ} {g : Meaning} → (Some a, g) ≡ created P h c → (Some Goes, g, past_with 0 (value.Addr a) fs) ≡ settle h fs (exec_top P (New c) h M fs)
     new_goes [] some low e = absurd (omega arith)
     new_goes (f ∷ rest) some low {a} {g} e = go (admits h (length (start_row P c))) refl
       where
-        go : (b : Bool) → admits h (length (start_row P c)) ≡ b → (Goes, g, past_with 0 (value.Addr a) (f ∷ rest)) ≡ settle h (f ∷ rest) (exec_top P (New c) h M (f ∷ rest))
+        go : (b : Bool) → admits h (length (start_row P c)) ≡ b → (Some Goes, g, past_with 0 (value.Addr a) (f ∷ rest)) ≡ settle h (f ∷ rest) (exec_top P (New c) h M (f ∷ rest))
         go true t =
             let s = rw t at e in
             rw (class, lt-ltb (length f.stack) M.method.height low, t, some_inj (ap (λ p. p.0) s), ap (λ p. p.1) s)
         go false t = let s = rw t at e in absurd (conflict (sym (ap (λ p. p.0) s)))
 
-    pub new_fails : (fs : List Frame) → 0 < length fs → length (top_stack fs) < M.method.height → {g : Meaning} {r : Next} {gs : List Frame} → (None, g) ≡ created P h c → (r, g, gs) ≡ settle g fs (raise P g out_of_memory_at fs) → (r, g, gs) ≡ settle h fs (exec_top P (New c) h M fs)
+    pub new_fails : (fs : List Frame) → 0 < length fs → length (top_stack fs) < M.method.height → {g : Meaning} {r : Option Next} {gs : List Frame} → (None, g) ≡ created P h c → (r, g, gs) ≡ settle g fs (raise P g out_of_memory_at fs) → (r, g, gs) ≡ settle h fs (exec_top P (New c) h M fs)
     new_fails [] some low e s = absurd (omega arith)
     new_fails (f ∷ rest) some low {g} {r} {gs} e s = go (admits h (length (start_row P c))) refl
       where

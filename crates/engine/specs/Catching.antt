@@ -10,8 +10,6 @@ use Rattle.jinja.specs.Options.{◌>>=◌, ◌>>◌}
 use Rattle.jinja.specs.Program.{Program}
 use Rattle.jinja.specs.Lookups.{method_at}
 use Rattle.jinja.specs.Step.{Frame as Activation, Next, goes, threw, at_place, catcher, catch, unwind}
-use Rattle.engine.specs.declared.catch.Catch.{Catch}
-use Rattle.engine.specs.declared.catch.Catch.TheVariants.{Lost, Nobody, At}
 use Rattle.engine.specs.declared.frame.Frame.{Frame}
 use Rattle.engine.specs.Views.{frame_of, lowest_frames}
 
@@ -25,10 +23,10 @@ catch_top P h a x [] = None
 catch_top P h a x (f ∷ rest) = method_at P f.method >>= λ M. catch P h a M (Some x) f rest None
 
 -- what becomes of an object of class c that is thrown in the topmost of the n lowest frames
-abbrev pub Caught : Program → ℕ → List Frame → ℕ → Catch → Type 0
-Caught P c fs n Lost = (h : Meaning) (a : ℕ) → unwind P h a c (lowest_frames fs n) ≡ None
-Caught P c fs n Nobody = (h : Meaning) (a : ℕ) → unwind P h a c (lowest_frames fs n) ≡ Some (threw a)
-Caught P c fs n (At k x) = (k < n) × ((h : Meaning) (a : ℕ) → unwind P h a c (lowest_frames fs n) ≡ catch_top P h a x (lowest_frames fs (k + 1)))
+abbrev pub Caught : Program → ℕ → List Frame → ℕ → Option (Option (ℕ × Handler)) → Type 0
+Caught P c fs n None = (h : Meaning) (a : ℕ) → unwind P h a c (lowest_frames fs n) ≡ None
+Caught P c fs n (Some None) = (h : Meaning) (a : ℕ) → unwind P h a c (lowest_frames fs n) ≡ Some (threw a)
+Caught P c fs n (Some (Some (k, x))) = (k < n) × ((h : Meaning) (a : ℕ) → unwind P h a c (lowest_frames fs n) ≡ catch_top P h a x (lowest_frames fs (k + 1)))
 
 -- a handler that was found in the frame f is used where r holds, with the lowest cells
 abbrev pub Lands : Program → Handler → Activation → List Value → Bool → Type 0

@@ -9,7 +9,7 @@ use Rattle.jinja.specs.Step.{Frame, at_place, goes, returned, threw, frames_full
 use Rattle.tables.specs.declared.records.MethodRec.{MethodRec}
 use Rattle.engine.specs.Moving.{is_local}
 use Rattle.engine.specs.declared.next.Next.{Next}
-use Rattle.engine.specs.declared.next.Next.TheVariants.{Goes, Returned, Threw, FramesFull, Unsound}
+use Rattle.engine.specs.declared.next.Next.TheVariants.{Goes, Returned, Threw, FramesFull}
 
 -- the number of the top frame's method
 abbrev pub top_method : List Frame → ℕ
@@ -46,19 +46,19 @@ cast_top P h c a [] = None
 cast_top P h c a (f ∷ rest) = cast P h c a f rest
 
 -- only a step that goes on changes heap and frames
-abbrev pub settle : Meaning → List Frame → Option Coming → Next × Meaning × List Frame
-settle h fs None = (Unsound, h, fs)
-settle h fs (Some (goes g gs)) = (Goes, g, gs)
-settle h fs (Some (returned v)) = (Returned v, h, fs)
-settle h fs (Some (threw a)) = (Threw a, h, fs)
-settle h fs (Some frames_full) = (FramesFull, h, fs)
+abbrev pub settle : Meaning → List Frame → Option Coming → Option Next × Meaning × List Frame
+settle h fs None = (None, h, fs)
+settle h fs (Some (goes g gs)) = (Some Goes, g, gs)
+settle h fs (Some (returned v)) = (Some (Returned v), h, fs)
+settle h fs (Some (threw a)) = (Some (Threw a), h, fs)
+settle h fs (Some frames_full) = (Some FramesFull, h, fs)
 
 -- what the local instruction i of a method of this greatest height and so many instructions does, over any heap
-abbrev pub StepsLocally : ℕ → ℕ → Instr → List Frame → Next → List Frame → Type 0
+abbrev pub StepsLocally : ℕ → ℕ → Instr → List Frame → Option Next → List Frame → Type 0
 StepsLocally height size i fs r gs = (P : Program) (M : Owned) → M.method.height ≡ height → length M.method.code ≡ size → is_local i ≡ true → (h : Meaning) → (r, h, gs) ≡ settle h fs (exec_top P i h M fs)
 
 -- what the instruction i of a method of this greatest height answers and leaves
-abbrev pub Steps : Program → ℕ → Instr → Meaning → List Frame → Next → Meaning → List Frame → Type 0
+abbrev pub Steps : Program → ℕ → Instr → Meaning → List Frame → Option Next → Meaning → List Frame → Type 0
 Steps P height i h fs r g gs = (M : Owned) → M.method.height ≡ height → (r, g, gs) ≡ settle h fs (exec_top P i h M fs)
 
 -- the method M has this record and so many instructions

@@ -32,22 +32,20 @@ pub(crate) fn invoke<H: Heap>(
     height: usize,
     name: Name,
     n: u8,
-) -> Next
+) -> Option<Next>
     requires whole { Whole tables.now }
     requires fitting { Fitting (program_of tables.now) }
     requires some { 0 < frames.old.count }
     requires inside { top_pc (frames_of frames.old) < max_instrs }
     ensures { Steps (program_of tables.now) height (instrs.Invoke name n) (H.Heap.meaning heap.now) (frames_of frames.old) result (H.Heap.meaning heap.now) (frames_of frames.new) }
 {
-    let Some(receiver) = frames.operand(n as usize) else {
-        return Next::Unsound;
-    };
+    let receiver = frames.operand(n as usize)?;
     match receiver {
         Value::Null => raise(tables, heap, frames, NULL_POINTER_AT),
         Value::Addr(a) => call(tables, heap, frames, height, name, n as usize, a),
-        Value::Unit => Next::Unsound,
-        Value::Bool(_) => Next::Unsound,
-        Value::Int(_) => Next::Unsound,
+        Value::Unit => None,
+        Value::Bool(_) => None,
+        Value::Int(_) => None,
     }
 }
 
@@ -60,7 +58,7 @@ fn call<H: Heap>(
     name: Name,
     n: usize,
     a: u16,
-) -> Next
+) -> Option<Next>
     requires whole { Whole tables.now }
     requires fitting { Fitting (program_of tables.now) }
     requires some { 0 < frames.old.count }
@@ -68,20 +66,14 @@ fn call<H: Heap>(
     requires high { n < length (top_stack (frames_of frames.old)) }
     ensures { (M : Owned) → M.method.height ≡ height → (result, H.Heap.meaning heap.now, frames_of frames.new) ≡ settle (H.Heap.meaning heap.now) (frames_of frames.old) (call_top (program_of tables.now) (H.Heap.meaning heap.now) name n a M (frames_of frames.old)) }
 {
-    let Some(c) = class_at(heap, a) else {
-        return Next::Unsound;
-    };
-    let Some(k) = tables.sees(c, name) else {
-        return Next::Unsound;
-    };
-    let Some(method) = tables.method(k) else {
-        return Next::Unsound;
-    };
+    let c = class_at(heap, a)?;
+    let k = tables.sees(c, name)?;
+    let method = tables.method(k)?;
     if !frames.arguments_fit(tables, heap, n, tables.params_from(method)) {
-        return Next::Unsound;
+        return None;
     }
     if frames.height() - (n + 1) >= height {
-        return Next::Unsound;
+        return None;
     }
     frames.enter(k, a, n, method.extras as usize)
 }
@@ -97,7 +89,7 @@ impl Frames {
     }
 
     // A frame of the method `k` on top, for this object and the `n` topmost operands, where there is room.
-    fn enter(&mut self, k: usize, this: u16, n: usize, extras: usize) -> Next
+    fn enter(&mut self, k: usize, this: u16, n: usize, extras: usize) -> Option<Next>
         requires some { 0 < self.old.count }
         requires inside { top_pc (frames_of self.old) < max_instrs }
         requires high { n ≤ length (top_stack (frames_of self.old)) }
@@ -105,10 +97,10 @@ impl Frames {
         ensures { (h : Meaning) → (result, h, frames_of self.new) ≡ settle h (frames_of self.old) (above h (fresh k this (arguments n (top_stack (frames_of self.old))) extras) (frames_of self.old)) }
     {
         if self.standing() >= MAX_FRAMES {
-            return Next::FramesFull;
+            return Some(Next::FramesFull);
         }
         self.open_above(k, this, n, extras);
-        Next::Goes
+        Some(Next::Goes)
     }
 }
 

@@ -6,30 +6,28 @@ ghost use Rattle.tables.specs.Methods.{Whole};
 ghost use Rattle.engine.specs.Catching.{looked, Caught};
 ghost use Rattle.engine.specs.Views.{frame_of};
 
-use crate::catch::Catch;
 use crate::frame::Frame;
 use jinja::program::{ClassNumber, Handler};
 use tables::tables::Tables;
 
-// Where the object of class `c` is caught, of the lowest `count` frames.
-pub(crate) fn find(tables: &Tables, frames: &[Frame], count: usize, c: ClassNumber) -> Catch
+// The topmost of the lowest `count` frames with a handler that catches an object of class `c`, if there is one. No answer
+// where a frame without a method is on the way.
+pub(crate) fn find(
+    tables: &Tables,
+    frames: &[Frame],
+    count: usize,
+    c: ClassNumber,
+) -> Option<Option<(usize, Handler)>>
     requires whole { Whole tables.now }
     requires within { count ≤ length frames.now }
     ensures { Caught (program_of tables.now) c frames.now count result }
 {
-    let mut k = count;
-    while k > 0 {
-        let at = k - 1;
-        match handler_in(tables, &frames[at], c) {
-            None => return Catch::Lost,
-            Some(found) => match found {
-                Some(handler) => return Catch::At(at, handler),
-                None => {}
-            },
+    for k in (0..count).rev() {
+        if let Some(handler) = handler_in(tables, &frames[k], c)? {
+            return Some(Some((k, handler)));
         }
-        k = at;
     }
-    Catch::Nobody
+    Some(None)
 }
 
 // The handler of the frame's method that catches at its place, if there is such a method.
@@ -37,10 +35,8 @@ fn handler_in(tables: &Tables, frame: &Frame, c: ClassNumber) -> Option<Option<H
     requires { Whole tables.now }
     ensures { result ≡ looked (program_of tables.now) c (frame_of frame.now) }
 {
-    match tables.method(frame.method) {
-        None => None,
-        Some(_) => Some(catcher(tables, tables.handlers_of(frame.method), frame.pc, c)),
-    }
+    tables.method(frame.method)?;
+    Some(catcher(tables, tables.handlers_of(frame.method), frame.pc, c))
 }
 
 // The first handler that catches.

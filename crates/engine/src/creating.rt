@@ -28,7 +28,7 @@ pub(crate) fn create<H: Heap>(
     frames: &mut Frames,
     height: usize,
     c: ClassNumber,
-) -> Next
+) -> Option<Next>
     requires whole { Whole tables.now }
     requires fitting { Fitting (program_of tables.now) }
     requires some { 0 < frames.old.count }
@@ -37,15 +37,15 @@ pub(crate) fn create<H: Heap>(
     ensures { Steps (program_of tables.now) height (instrs.New c) (H.Heap.meaning heap.old) (frames_of frames.old) result (H.Heap.meaning heap.new) (frames_of frames.new) }
 {
     if !tables.is_class(c) {
-        return Next::Unsound;
+        return None;
     }
     if frames.height() >= height {
-        return Next::Unsound;
+        return None;
     }
     match add_object(tables, heap, c) {
         Some(a) => {
             frames.pass_with(0, Value::Addr(a));
-            Next::Goes
+            Some(Next::Goes)
         }
         None => raise(tables, heap, frames, OUT_OF_MEMORY_AT),
     }
@@ -69,10 +69,7 @@ fn append<H: Heap>(heap: &mut H, c: ClassNumber, row: &[Value], n: usize) -> Opt
     requires { n ≤ length row.now }
     ensures { (result, H.Heap.meaning heap.new) ≡ appended (H.Heap.meaning heap.old) c (take n row.now) }
 {
-    match heap.add(c, &row[..n]) {
-        Ok(a) => Some(a),
-        Err(_) => None,
-    }
+    heap.add(c, &row[..n]).ok()
 }
 
 // Writes the `n` values that the fields of an object of class `c` start with: those of the class last, and so upward.

@@ -26,34 +26,28 @@ pub(crate) fn getfield<H: Heap>(
     height: usize,
     name: Name,
     c: ClassNumber,
-) -> Next
+) -> Option<Next>
     requires whole { Whole tables.now }
     requires fitting { Fitting (program_of tables.now) }
     requires some { 0 < frames.old.count }
     requires inside { top_pc (frames_of frames.old) < max_instrs }
     ensures { Steps (program_of tables.now) height (instrs.Getfield name c) (H.Heap.meaning heap.now) (frames_of frames.old) result (H.Heap.meaning heap.now) (frames_of frames.new) }
 {
-    let Some(v) = frames.operand(0) else {
-        return Next::Unsound;
-    };
-    let Some(field) = tables.own_field(c, name) else {
-        return Next::Unsound;
-    };
+    let v = frames.operand(0)?;
+    let field = tables.own_field(c, name)?;
     if frames.height() > height {
-        return Next::Unsound;
+        return None;
     }
     match v {
         Value::Null => raise(tables, heap, frames, NULL_POINTER_AT),
-        Value::Addr(a) => match field_value(tables, heap, field, c, a) {
-            Some(value) => {
-                frames.pass_with(1, value);
-                Next::Goes
-            }
-            None => Next::Unsound,
-        },
-        Value::Unit => Next::Unsound,
-        Value::Bool(_) => Next::Unsound,
-        Value::Int(_) => Next::Unsound,
+        Value::Addr(a) => {
+            let value = field_value(tables, heap, field, c, a)?;
+            frames.pass_with(1, value);
+            Some(Next::Goes)
+        }
+        Value::Unit => None,
+        Value::Bool(_) => None,
+        Value::Int(_) => None,
     }
 }
 
@@ -61,10 +55,7 @@ pub(crate) fn getfield<H: Heap>(
 fn value_at<H: Heap>(heap: &H, a: u16, i: usize) -> Option<Value>
     ensures { result ≡ value_at (H.Heap.meaning heap.now) a i }
 {
-    match heap.read(a, i) {
-        Ok(v) => Some(v),
-        Err(_) => None,
-    }
+    heap.read(a, i).ok()
 }
 
 // The value of the field that the class `c` declares, of the object at an address.
@@ -77,18 +68,10 @@ pub(crate) fn field_value<H: Heap>(
 ) -> Option<Value>
     ensures { result ≡ field_value (program_of tables.now) (H.Heap.meaning heap.now) field c a }
 {
-    let Some(d) = class_at(heap, a) else {
-        return None;
-    };
+    let d = class_at(heap, a)?;
     if !tables.at_or_below(d, c) {
         return None;
     }
-    let Some(v) = value_at(heap, a, field.place) else {
-        return None;
-    };
-    if fits(tables, heap, v, field.ty) {
-        Some(v)
-    } else {
-        None
-    }
+    let v = value_at(heap, a, field.place)?;
+    fits(tables, heap, v, field.ty).then_some(v)
 }

@@ -2,7 +2,6 @@
 #![tactic(auto)]
 
 mod calling;
-mod catch;
 mod catching;
 mod creating;
 mod fields;

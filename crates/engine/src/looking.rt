@@ -68,7 +68,7 @@ impl Frame {
         Some(self.cells[j])
     }
 
-    fn register(&self, j: usize) -> Option<Value>
+    pub(crate) fn register(&self, j: usize) -> Option<Value>
         ensures { result ≡ slice_get (frame_of self.now).registers j }
     {
         if j >= self.register_count {

@@ -19,20 +19,15 @@ use tables::tables::Tables;
 pub(crate) fn class_at<H: Heap>(heap: &H, a: u16) -> Option<ClassNumber>
     ensures { result ≡ class_of (H.Heap.meaning heap.now) a }
 {
-    match heap.class(a) {
-        Ok(c) => Some(c),
-        Err(_) => None,
-    }
+    heap.class(a).ok()
 }
 
 // The object at `a` is thrown in the top frame.
-pub(crate) fn raise<H: Heap>(tables: &Tables, heap: &H, frames: &mut Frames, a: u16) -> Next
+pub(crate) fn raise<H: Heap>(tables: &Tables, heap: &H, frames: &mut Frames, a: u16) -> Option<Next>
     requires whole { Whole tables.now }
     requires fitting { Fitting (program_of tables.now) }
     ensures { (result, H.Heap.meaning heap.now, frames_of frames.new) ≡ settle (H.Heap.meaning heap.now) (frames_of frames.old) (raise (program_of tables.now) (H.Heap.meaning heap.now) a (frames_of frames.old)) }
 {
-    match class_at(heap, a) {
-        Some(c) => unwind(tables, frames, a, c),
-        None => Next::Unsound,
-    }
+    let c = class_at(heap, a)?;
+    unwind(tables, frames, a, c)
 }

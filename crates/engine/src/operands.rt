@@ -45,17 +45,17 @@ impl Frame {
     }
 
     // On to the next instruction, with a value on top of the lowest `keep` cells, if these are lower than the greatest height.
-    pub(crate) fn onward(&mut self, height: usize, keep: usize, value: Value) -> bool
+    pub(crate) fn onward(&mut self, height: usize, keep: usize, value: Value) -> Option<()>
         requires inside { self.old.pc < max_instrs }
         requires low { height ≤ cell_limit }
         requires kept { keep ≤ cell_limit }
         ensures { Onward height (frame_of self.old) (held self.old.cells keep) value result (frame_of self.new) }
     {
         if keep >= height {
-            return false;
+            return None;
         }
         self.go_with(self.pc + 1, keep, value);
-        true
+        Some(())
     }
 
     // On to the next instruction, without the `n` topmost operands.
@@ -108,12 +108,8 @@ impl Frame {
         ensures seen { two_of (frame_of self.now).stack ≡ maybe result None (λ p. Some (two p.0 p.1 (held self.now.cells (self.now.height - 2)))) }
         ensures high { OnSome result (2 ≤ self.now.height) }
     {
-        let Some(lower) = self.operand(1) else {
-            return None;
-        };
-        let Some(upper) = self.operand(0) else {
-            return None;
-        };
+        let lower = self.operand(1)?;
+        let upper = self.operand(0)?;
         Some((upper, lower))
     }
 }

@@ -1,5 +1,5 @@
 // Putfield: another value at a field's place.
-ghost use Rattle.std.specs.Prelude.{◌≡◌, ◌<◌, ◌≤◌, length};
+ghost use Rattle.std.specs.Prelude.{◌≡◌, ◌<◌, ◌≤◌, length, is_some};
 ghost use Rattle.heap.specs.Calls.{has_field, after_write};
 ghost use Rattle.format.specs.Limits.{max_instrs};
 ghost use Rattle.jinja.specs.declared.instr.Instr.TheVariants as instrs;
@@ -27,31 +27,25 @@ pub(crate) fn putfield<H: Heap>(
     height: usize,
     name: Name,
     c: ClassNumber,
-) -> Next
+) -> Option<Next>
     requires whole { Whole tables.now }
     requires fitting { Fitting (program_of tables.now) }
     requires some { 0 < frames.old.count }
     requires inside { top_pc (frames_of frames.old) < max_instrs }
     ensures { Steps (program_of tables.now) height (instrs.Putfield name c) (H.Heap.meaning heap.old) (frames_of frames.old) result (H.Heap.meaning heap.new) (frames_of frames.new) }
 {
-    let Some(reference) = frames.operand(1) else {
-        return Next::Unsound;
-    };
-    let Some(v) = frames.operand(0) else {
-        return Next::Unsound;
-    };
-    let Some(field) = tables.own_field(c, name) else {
-        return Next::Unsound;
-    };
+    let reference = frames.operand(1)?;
+    let v = frames.operand(0)?;
+    let field = tables.own_field(c, name)?;
     if !fits(tables, heap, v, field.ty) {
-        return Next::Unsound;
+        return None;
     }
     match reference {
         Value::Null => raise(tables, heap, frames, NULL_POINTER_AT),
         Value::Addr(a) => put(tables, heap, frames, field, c, a, v),
-        Value::Unit => Next::Unsound,
-        Value::Bool(_) => Next::Unsound,
-        Value::Int(_) => Next::Unsound,
+        Value::Unit => None,
+        Value::Bool(_) => None,
+        Value::Int(_) => None,
     }
 }
 
@@ -64,32 +58,25 @@ fn put<H: Heap>(
     c: ClassNumber,
     a: u16,
     v: Value,
-) -> Next
+) -> Option<Next>
     requires some { 0 < frames.old.count }
     requires inside { top_pc (frames_of frames.old) < max_instrs }
     requires high { 2 ≤ length (top_stack (frames_of frames.old)) }
     ensures { (result, H.Heap.meaning heap.new, frames_of frames.new) ≡ settle (H.Heap.meaning heap.old) (frames_of frames.old) (put_top (program_of tables.now) (H.Heap.meaning heap.old) field c a v (frames_of frames.old)) }
 {
-    let Some(d) = class_at(heap, a) else {
-        return Next::Unsound;
-    };
+    let d = class_at(heap, a)?;
     if !tables.at_or_below(d, c) {
-        return Next::Unsound;
+        return None;
     }
-    if !write(heap, a, field.place, v) {
-        return Next::Unsound;
-    }
+    write(heap, a, field.place, v)?;
     frames.pass(2);
-    Next::Goes
+    Some(Next::Goes)
 }
 
 // Puts the value where the object at `a` has such a place.
-fn write<H: Heap>(heap: &mut H, a: u16, i: usize, v: Value) -> bool
-    ensures told { result ≡ has_field (H.Heap.meaning heap.old) a i }
+fn write<H: Heap>(heap: &mut H, a: u16, i: usize, v: Value) -> Option<()>
+    ensures told { is_some result ≡ has_field (H.Heap.meaning heap.old) a i }
     ensures after { H.Heap.meaning heap.new ≡ after_write (H.Heap.meaning heap.old) a i v }
 {
-    match heap.write(a, i, v) {
-        Ok(_) => true,
-        Err(_) => false,
-    }
+    heap.write(a, i, v).ok()
 }

@@ -25,20 +25,23 @@ pub const CLASS_CAST_AT: u16 = 1;
 /// Where begin puts the OutOfMemory object.
 pub const OUT_OF_MEMORY_AT: u16 = 2;
 
-pub(crate) fn throw<H: Heap>(tables: &Tables, heap: &H, frames: &mut Frames, height: usize) -> Next
+pub(crate) fn throw<H: Heap>(
+    tables: &Tables,
+    heap: &H,
+    frames: &mut Frames,
+    height: usize,
+) -> Option<Next>
     requires whole { Whole tables.now }
     requires fitting { Fitting (program_of tables.now) }
     ensures { Steps (program_of tables.now) height instrs.Throw (H.Heap.meaning heap.now) (frames_of frames.old) result (H.Heap.meaning heap.now) (frames_of frames.new) }
 {
-    let Some(v) = frames.operand(0) else {
-        return Next::Unsound;
-    };
+    let v = frames.operand(0)?;
     match v {
         Value::Null => raise(tables, heap, frames, NULL_POINTER_AT),
         Value::Addr(a) => raise(tables, heap, frames, a),
-        Value::Unit => Next::Unsound,
-        Value::Bool(_) => Next::Unsound,
-        Value::Int(_) => Next::Unsound,
+        Value::Unit => None,
+        Value::Bool(_) => None,
+        Value::Int(_) => None,
     }
 }
 
@@ -48,48 +51,50 @@ pub(crate) fn checkcast<H: Heap>(
     frames: &mut Frames,
     height: usize,
     c: ClassNumber,
-) -> Next
+) -> Option<Next>
     requires whole { Whole tables.now }
     requires fitting { Fitting (program_of tables.now) }
     requires some { 0 < frames.old.count }
     requires inside { top_pc (frames_of frames.old) < max_instrs }
     ensures { Steps (program_of tables.now) height (instrs.Checkcast c) (H.Heap.meaning heap.now) (frames_of frames.old) result (H.Heap.meaning heap.now) (frames_of frames.new) }
 {
-    let Some(v) = frames.operand(0) else {
-        return Next::Unsound;
-    };
+    let v = frames.operand(0)?;
     if !tables.is_class(c) {
-        return Next::Unsound;
+        return None;
     }
     if frames.height() > height {
-        return Next::Unsound;
+        return None;
     }
     match v {
         Value::Null => {
             frames.pass(0);
-            Next::Goes
+            Some(Next::Goes)
         }
         Value::Addr(a) => cast(tables, heap, frames, c, a),
-        Value::Unit => Next::Unsound,
-        Value::Bool(_) => Next::Unsound,
-        Value::Int(_) => Next::Unsound,
+        Value::Unit => None,
+        Value::Bool(_) => None,
+        Value::Int(_) => None,
     }
 }
 
 // The object at `a`, on top, is cast to `c`.
-fn cast<H: Heap>(tables: &Tables, heap: &H, frames: &mut Frames, c: ClassNumber, a: u16) -> Next
+fn cast<H: Heap>(
+    tables: &Tables,
+    heap: &H,
+    frames: &mut Frames,
+    c: ClassNumber,
+    a: u16,
+) -> Option<Next>
     requires whole { Whole tables.now }
     requires fitting { Fitting (program_of tables.now) }
     requires some { 0 < frames.old.count }
     requires inside { top_pc (frames_of frames.old) < max_instrs }
     ensures { (v : Held) → Some v ≡ slice_get (top_stack (frames_of frames.old)) 0 → (result, H.Heap.meaning heap.now, frames_of frames.new) ≡ settle (H.Heap.meaning heap.now) (frames_of frames.old) (cast_top (program_of tables.now) (H.Heap.meaning heap.now) c a (frames_of frames.old)) }
 {
-    let Some(d) = class_at(heap, a) else {
-        return Next::Unsound;
-    };
+    let d = class_at(heap, a)?;
     if tables.at_or_below(d, c) {
         frames.pass(0);
-        return Next::Goes;
+        return Some(Next::Goes);
     }
     raise(tables, heap, frames, CLASS_CAST_AT)
 }

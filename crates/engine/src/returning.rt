@@ -27,36 +27,34 @@ pub(crate) fn return_value<H: Heap>(
     frames: &mut Frames,
     res: Ty,
     params: usize,
-) -> Next
+) -> Option<Next>
     requires whole { Whole tables.now }
     requires fitting { Fitting (program_of tables.now) }
     requires some { 0 < frames.old.count }
     ensures { (M : Owned) → M.method.result ≡ res → length M.method.params ≡ params → (result, H.Heap.meaning heap.now, frames_of frames.new) ≡ settle (H.Heap.meaning heap.now) (frames_of frames.old) (exec_top (program_of tables.now) instrs.Return (H.Heap.meaning heap.now) M (frames_of frames.old)) }
 {
-    let Some(v) = frames.operand(0) else {
-        return Next::Unsound;
-    };
+    let v = frames.operand(0)?;
     if !fits(tables, heap, v, res) {
-        return Next::Unsound;
+        return None;
     }
     hand_back(tables, frames, v, params)
 }
 
 // The value goes to the frame below the top one, which called with `n` arguments.
-fn hand_back(tables: &Tables, frames: &mut Frames, v: Value, n: usize) -> Next
+fn hand_back(tables: &Tables, frames: &mut Frames, v: Value, n: usize) -> Option<Next>
     requires whole { Whole tables.now }
     requires fitting { Fitting (program_of tables.now) }
     requires some { 0 < frames.old.count }
     ensures { (h : Meaning) → (result, h, frames_of frames.new) ≡ settle h (frames_of frames.old) (return_to (program_of tables.now) h v n (below (frames_of frames.old))) }
 {
     if frames.is_last() {
-        return Next::Returned(v);
+        return Some(Next::Returned(v));
     }
     if !frames.caller_resumes(tables, n) {
-        return Next::Unsound;
+        return None;
     }
     frames.leave(n + 1, v);
-    Next::Goes
+    Some(Next::Goes)
 }
 
 impl Frames {

@@ -9,30 +9,26 @@ ghost use Rattle.engine.specs.Stepping.{top_method, top_pc, top_stack, past, pas
 use crate::frame::Frame;
 use crate::frames::Frames;
 use crate::next::Next;
-use heap::store::Heap;
 use heap::value::Value;
 use jinja::instr::Instr;
 
 // An instruction that moves the frame at `top` alone.
-fn local_at<H: Heap>(
-    _heap: &H,
+#[inline]
+fn local_at(
     frames: &mut [Frame],
     top: usize,
     height: usize,
     size: usize,
     instr: Instr,
-) -> Next
+) -> Option<Next>
     requires top { top < length frames.old }
     requires inside { top_pc (lowest_frames frames.old (top + 1)) < max_instrs }
     requires low { height ≤ cell_limit }
     ensures after { StepsLocally height size instr (lowest_frames frames.old (top + 1)) result (lowest_frames frames.new (top + 1)) }
     ensures below { take top frames.new ≡ take top frames.old }
 {
-    if frames[top].local(_heap, height, size, instr) {
-        Next::Goes
-    } else {
-        Next::Unsound
-    }
+    frames[top].local(height, size, instr)?;
+    Some(Next::Goes)
 }
 
 // The operand of the frame at `top` with `i` above it.
@@ -148,19 +144,13 @@ impl Frames {
     }
 
     // An instruction that moves the top frame alone, of a method of this greatest height and so many instructions.
-    // Any heap is handed through, so that each kind of machine has its whole step in one function.
-    pub(crate) fn local<H: Heap>(
-        &mut self,
-        _heap: &H,
-        height: usize,
-        size: usize,
-        instr: Instr,
-    ) -> Next
+    #[inline]
+    pub(crate) fn local(&mut self, height: usize, size: usize, instr: Instr) -> Option<Next>
         requires some { 0 < self.old.count }
         requires inside { top_pc (frames_of self.old) < max_instrs }
         requires low { height ≤ cell_limit }
         ensures { StepsLocally height size instr (frames_of self.old) result (frames_of self.new) }
     {
-        local_at(_heap, &mut self.frames, self.count - 1, height, size, instr)
+        local_at(&mut self.frames, self.count - 1, height, size, instr)
     }
 }

@@ -26,28 +26,26 @@ use tables::records::MethodRec;
 use tables::tables::Tables;
 
 /// One step of the top frame, and what it comes to. Only a step that goes on changes heap and frames.
-pub fn step<H: Heap>(set: &Set, heap: &mut H, frames: &mut Frames) -> Next
+pub fn step<H: Heap>(set: &Set, heap: &mut H, frames: &mut Frames) -> Option<Next>
     ensures { (result, H.Heap.meaning heap.new, frames_of frames.new) ≡ settle (H.Heap.meaning heap.old) (frames_of frames.old) (next_step (set_program set.now) (H.Heap.meaning heap.old) (frames_of frames.old)) }
 {
     step_in(tables_of(set), heap, frames)
 }
 
 // By the tables of a set. Method and code are looked up once.
-fn step_in<H: Heap>(tables: &Tables, heap: &mut H, frames: &mut Frames) -> Next
+fn step_in<H: Heap>(tables: &Tables, heap: &mut H, frames: &mut Frames) -> Option<Next>
     requires whole { Whole tables.now }
     requires fitting { Fitting (program_of tables.now) }
     ensures { (result, H.Heap.meaning heap.new, frames_of frames.new) ≡ settle (H.Heap.meaning heap.old) (frames_of frames.old) (next_step (program_of tables.now) (H.Heap.meaning heap.old) (frames_of frames.old)) }
 {
     if frames.count == 0 {
-        return Next::Unsound;
+        return None;
     }
-    let Some(method) = tables.method(frames.method()) else {
-        return Next::Unsound;
-    };
+    let method = tables.method(frames.method())?;
     let code = tables.code_from(method);
     let pc = frames.pc();
     if pc >= code.len() {
-        return Next::Unsound;
+        return None;
     }
     exec(tables, heap, frames, method, code.len(), code[pc])
 }
@@ -60,7 +58,7 @@ fn exec<H: Heap>(
     method: MethodRec,
     size: usize,
     instr: Instr,
-) -> Next
+) -> Option<Next>
     requires whole { Whole tables.now }
     requires fitting { Fitting (program_of tables.now) }
     requires some { 0 < frames.old.count }
@@ -77,6 +75,6 @@ fn exec<H: Heap>(
         Instr::Invoke(name, n) => invoke(tables, heap, frames, height, name, n),
         Instr::Return => { return_value(tables, heap, frames, method.result, method.params.count) }
         Instr::Throw => throw(tables, heap, frames, height),
-        _ => frames.local(heap, height, size, instr),
+        _ => frames.local(height, size, instr),
     }
 }

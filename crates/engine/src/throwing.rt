@@ -10,7 +10,6 @@ ghost use Rattle.engine.specs.Views.{frame_of, lowest_frames, frames_of};
 ghost use Rattle.engine.specs.Catching.{Lands, LandsAt, Landed};
 ghost use Rattle.engine.specs.Stepping.{settle};
 
-use crate::catch::Catch;
 use crate::catching::find;
 use crate::frame::Frame;
 use crate::frames::Frames;
@@ -20,23 +19,20 @@ use jinja::program::{ClassNumber, Handler};
 use tables::tables::Tables;
 
 // The object at `a`, of class `c`, is thrown in the top frame.
-pub(crate) fn unwind(tables: &Tables, frames: &mut Frames, a: u16, c: ClassNumber) -> Next
+pub(crate) fn unwind(tables: &Tables, frames: &mut Frames, a: u16, c: ClassNumber) -> Option<Next>
     requires whole { Whole tables.now }
     requires fitting { Fitting (program_of tables.now) }
     ensures { (h : Meaning) → (result, h, frames_of frames.new) ≡ settle h (frames_of frames.old) (unwind (program_of tables.now) h a c (frames_of frames.old)) }
 {
-    match find(tables, &frames.frames, frames.count, c) {
-        Catch::Lost => Next::Unsound,
-        Catch::Nobody => Next::Threw(a),
-        Catch::At(k, handler) => {
-            if !lands_at(tables, &frames.frames, k, handler) {
-                return Next::Unsound;
-            }
-            land_at(&mut frames.frames, k, handler, a);
-            frames.count = k + 1;
-            Next::Goes
-        }
+    let Some((k, handler)) = find(tables, &frames.frames, frames.count, c)? else {
+        return Some(Next::Threw(a));
+    };
+    if !lands_at(tables, &frames.frames, k, handler) {
+        return None;
     }
+    land_at(&mut frames.frames, k, handler, a);
+    frames.count = k + 1;
+    Some(Next::Goes)
 }
 
 // Whether the frame at `k` can use its handler.

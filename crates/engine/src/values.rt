@@ -1,9 +1,9 @@
-// Run values: the sum and the comparison of two, the value of a literal, and the place of a jump.
+// Run values: the sum of two, the value of a literal, and the place of a jump.
 ghost use Rattle.std.specs.Prelude.{◌≡◌, ◌≤◌};
 ghost use Rattle.format.specs.Limits.{max_instrs};
 ghost use Rattle.jinja.specs.Rule.{jump};
 ghost use Rattle.jinja.specs.Step.{as_boolean};
-ghost use Rattle.jinja.specs.Values.{literal_value, same_value};
+ghost use Rattle.jinja.specs.Values.{literal_value};
 ghost use Rattle.engine.specs.Moving.{sum_of};
 
 use heap::value::Value;
@@ -25,11 +25,8 @@ pub(crate) fn value_of(literal: Literal) -> Value
 pub(crate) fn sum(v: Value, w: Value) -> Option<Value>
     ensures { result ≡ sum_of v w }
 {
-    match v {
-        Value::Int(a) => match w {
-            Value::Int(b) => Some(Value::Int(b.wrapping_add(a))),
-            _ => None,
-        },
+    match (v, w) {
+        (Value::Int(a), Value::Int(b)) => Some(Value::Int(b.wrapping_add(a))),
         _ => None,
     }
 }
@@ -42,13 +39,6 @@ pub(crate) fn boolean(v: Value) -> Option<bool>
         Value::Bool(b) => Some(b),
         _ => None,
     }
-}
-
-// Whether two values are one.
-pub(crate) fn is_same(v: Value, w: Value) -> bool
-    ensures { result ≡ same_value v w }
-{
-    v == w
 }
 
 // The place `z` further on from `pc`, if that is no place before the first.

@@ -88,15 +88,15 @@ impl<H: Heap> Machine<H> {
         ensures program { program self.new ≡ program self.old }
     {
         match step(self.accepted.set(), &mut self.heap, &mut self.frames) {
-            Next::Goes => {
+            Some(Next::Goes) => {
                 self.steps = self.steps.saturating_add(1);
                 self.outcome = Outcome::Nothing;
                 Answer::Stepped
             }
-            Next::Returned(v) => self.finish(Phase::Finished, Outcome::Returned(v)),
-            Next::Threw(a) => self.finish(Phase::Uncaught, Outcome::Threw(a)),
-            Next::FramesFull => Answer::FramesFull,
-            Next::Unsound => Answer::Unsound,
+            Some(Next::Returned(v)) => self.finish(Phase::Finished, Outcome::Returned(v)),
+            Some(Next::Threw(a)) => self.finish(Phase::Uncaught, Outcome::Threw(a)),
+            Some(Next::FramesFull) => Answer::FramesFull,
+            None => Answer::Unsound,
         }
     }
 

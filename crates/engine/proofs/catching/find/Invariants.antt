@@ -1,4 +1,4 @@
-use Rattle.std.proofs.Common.{◌≡◌, ℕ, ◌≤◌}
+use Rattle.std.proofs.Common.{◌≡◌, ℕ}
 use Rattle.heap.specs.Meaning.{Meaning}
 use Rattle.jinja.specs.Step.{unwind}
 use Rattle.tables.specs.Views.{program_of}
@@ -6,7 +6,4 @@ use Rattle.engine.specs.Views.{lowest_frames}
 use Rattle.engine.proofs.catching.find.Given as goal
 
 abbrev pub invariant-loop-k : goal.invariant-loop-k
-invariant-loop-k l = (l.k ≤ l.count) × ((h : Meaning) (a : ℕ) → unwind (program_of l.tables) h a l.c (lowest_frames l.frames l.count) ≡ unwind (program_of l.tables) h a l.c (lowest_frames l.frames l.k))
-
-abbrev pub decreases-loop-k : goal.decreases-loop-k
-decreases-loop-k l = l.k
+invariant-loop-k l = (h : Meaning) (a : ℕ) → unwind (program_of l.tables) h a l.c (lowest_frames l.frames l.count) ≡ unwind (program_of l.tables) h a l.c (lowest_frames l.frames l.k)

@@ -5,17 +5,17 @@ use Rattle.tables.specs.Views.{program_of}
 use Rattle.engine.proofs.Handlers.{by_method}
 use Rattle.engine.proofs.catching.handler_in.Goals as goal
 
-pub returns-in-None : goal.returns-in-None
-returns-in-None c =
+pub returns-in_err-method : goal.returns-in_err-method
+returns-in_err-method c =
     let P = program_of c.args.tables.now in
     let f = c.args.frame.now in
-    sym (by_method (method_at P f.method) None (λ m. catcher P m.handlers f.pc c.args.c) (c.method.ensures.numbered c.requires ∙ c.in-None.ensures.spans.method))
+    c.from_residual.ensures ∙ sym (by_method (method_at P f.method) None (λ m. catcher P m.handlers f.pc c.args.c) (c.method.ensures.numbered c.requires ∙ c.in_err-method.ensures.spans.method))
 
-pub returns-in-Some : goal.returns-in-Some
-returns-in-Some c =
+pub returns : goal.returns
+returns c =
     let P = program_of c.args.tables.now in
     let f = c.args.frame.now in
-    let s = c.in-Some.ensures.spans.method in
+    let s = c.in_ok-method.ensures.spans.method in
     let hs = rw s at c.handlers_of.ensures in
     ap Some (rw hs at c.catcher.ensures)
     ∙ sym (by_method (method_at P f.method) (Some _) (λ m. catcher P m.handlers f.pc c.args.c) (c.method.ensures.numbered c.requires ∙ s))

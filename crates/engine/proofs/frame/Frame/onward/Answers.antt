@@ -1,5 +1,5 @@
 use Rattle.std.proofs.Common.{◌∷◌, sym, refl, ap, ◌∙◌, add-one, arith}
-use Rattle.std.proofs.lemmas.Bool.{lt-ltb, le-ltb, true≢false, false≢true}
+use Rattle.std.proofs.lemmas.Bool.{lt-ltb, le-ltb, false≢true}
 use Rattle.stack.specs.Stacked.{held}
 use Rattle.jinja.specs.Step.{at_place}
 use Rattle.engine.specs.Views.{frame_of}
@@ -18,5 +18,5 @@ returns c =
     record {
       told = sym (lt-ltb _ _ (omega (arith, l)));
       moved = λ _. c.go_with.ensures ∙ ap (λ p. at_place (frame_of f) p (c.args.value ∷ held f.cells c.args.keep)) (add-one f.pc);
-      kept = λ e. absurd (true≢false e);
+      kept = λ e. cc;
     }
