@@ -1,23 +1,19 @@
-// The cell heap's layout.
-ghost use Rattle.std.specs.Prelude.{◌≡◌, ℕ, ◌<◌, ◌≤◌, length, slice_index};
-ghost use Rattle.cell_heap.specs.Limits.{cell_limit};
+// A strip of cells: the head and the fields of each object, one object behind another.
+ghost use Rattle.std.specs.Prelude.{◌≡◌, ℕ, ◌<◌, length, slice_index};
+ghost use Rattle.filled.specs.Items.{items_of};
 ghost use Rattle.cell_heap.specs.Strip.{start};
 ghost use Rattle.cell_heap.specs.Cells.{cell, cell_at};
 
 use crate::cell::Cell;
 use crate::limits::CELLS;
+use filled::filled::Filled;
 
-/// A heap of 1,024 cells, of which the first `top` hold `count` objects, with the charge line (1, 1, 1,024). `starts` has
-/// the place of each object's head, so that no call walks the cells.
+/// A layout of 1,024 cells, with the charge line (1, 1, 1,024). `starts` has the place of each object's head, so that no
+/// call walks the cells.
 #[derive(Drop)]
-pub struct CellHeap {
-    pub(crate) cells: [Cell; CELLS],
-    pub(crate) starts: [u16; CELLS],
-    pub(crate) top: u16,
-    pub(crate) count: u16,
-    ghost whole: { length cells ≡ cell_limit },
-    ghost wide: { length starts ≡ cell_limit },
-    ghost room: { top ≤ cell_limit },
-    ghost laid: { start cell (cell_at cells) count ≡ top },
-    ghost indexed: { (a : ℕ) → a < count → slice_index starts a ≡ start cell (cell_at cells) a },
+pub struct Cells {
+    pub(crate) cells: Filled<Cell, CELLS>,
+    pub(crate) starts: Filled<u16, CELLS>,
+    ghost laid: { start cell (cell_at (items_of cells)) (length (items_of starts)) ≡ length (items_of cells) },
+    ghost indexed: { (a : ℕ) → a < length (items_of starts) → slice_index (items_of starts) a ≡ start cell (cell_at (items_of cells)) a },
 }

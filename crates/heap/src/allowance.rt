@@ -8,7 +8,7 @@ use crate::charge::ChargeLine;
 use crate::fault::HeapFault;
 use crate::limits::ROW_LIMIT;
 use crate::store::Heap;
-use crate::usage::{cost, used};
+use crate::usage::used;
 use crate::value::Value;
 
 /// A heap over a lower heap: it shows the lower heap's objects, and its own line stands in front of the lower heap's.
@@ -39,7 +39,7 @@ impl<L: Heap> Heap for Allowance<L> {
     fn add(&mut self, class: u8, row: &[Value]) -> Result<u16, HeapFault> {
         let n = row.len();
         if n > ROW_LIMIT
-            || used(&self.lower, self.own) + cost(self.own, n) > self.own.total as usize
+            || used(&self.lower, self.own) + self.own.cost(n) > self.own.total as usize
         {
             return Err(HeapFault::Full);
         }

@@ -4,6 +4,8 @@
 pub mod allowance;
 pub mod charge;
 pub mod fault;
+pub mod laid;
+pub mod layout;
 pub mod limits;
 pub mod store;
 pub mod totals;

@@ -1,7 +1,7 @@
 // What a heap's objects cost on a charge line.
 ghost use Rattle.std.specs.Prelude.{◌≡◌, ◌*◌, ◌≤◌};
-ghost use Rattle.heap.specs.Limits.{row_limit, word_limit};
-ghost use Rattle.heap.specs.Meaning.{cost, used};
+ghost use Rattle.heap.specs.Limits.{word_limit};
+ghost use Rattle.heap.specs.Meaning.{used};
 ghost use Rattle.heap.specs.Lawful.{cost_limit};
 
 use crate::charge::ChargeLine;
@@ -15,17 +15,8 @@ pub fn used<H: Heap>(heap: &H, line: ChargeLine) -> usize
     let mut sum = 0;
     for addr in 0..heap.count() {
         if let Ok(n) = heap.row_len(addr) {
-            sum += cost(line, n);
+            sum += line.cost(n);
         }
     }
     sum
-}
-
-// What an object of `n` fields costs on a line.
-pub(crate) fn cost(line: ChargeLine, n: usize) -> usize
-    requires { n ≤ row_limit }
-    ensures value { result ≡ cost line n }
-    ensures bound { result ≤ cost_limit }
-{
-    line.fixed as usize + line.per_field as usize * n
 }

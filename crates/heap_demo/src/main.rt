@@ -64,7 +64,7 @@ fn line(fixed: u16, per_field: u16, total: u16) -> ChargeLine {
 // Fills the heap with rows of one length, and shows how many it took, what it answers to one more, and each line's use.
 fn report<H: Heap>(rt: &HostRuntime, name: &str, heap: &mut H, fields: usize) -> io::Result<()> {
     let values = [Value::Null; 9];
-    let row = &values[0..fields.min(9)];
+    let row = &values[..fields.min(9)];
     let taken = fill_to_limit(heap, 4, row);
     let number = answer(heap.add(4, row));
     println!(rt; "{name}, rows of {fields}: {taken} taken, then {number}")?;
@@ -95,8 +95,5 @@ fn visit<H: Heap>(rt: &HostRuntime, heap: &mut H) -> io::Result<()> {
 
 // A refusal's number, and 0 for none.
 fn answer<T: Drop>(answered: Result<T, HeapFault>) -> u8 {
-    match answered {
-        Ok(_) => 0,
-        Err(fault) => fault.number(),
-    }
+    answered.err().map_or(0, |fault| fault.number())
 }

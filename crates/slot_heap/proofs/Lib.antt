@@ -1,2 +1,2 @@
--- Lemmas of the slot heap.
-pub mod SlotObjects
+-- Lemmas by topic.
+mod SlotObjects

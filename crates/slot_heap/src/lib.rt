@@ -1,9 +1,12 @@
 //! The slot heap: a slot for each object, whatever its row.
 #![tactic(auto)]
 
-mod calls;
 pub mod limits;
-mod slots;
+pub mod slots;
 
-pub use calls::SLOT_LINE;
-pub use slots::SlotHeap;
+use heap::laid::Laid;
+pub use slots::SLOT_LINE;
+use slots::Slots;
+
+/// A heap of 128 slots, with the charge line (1, 0, 128).
+pub type SlotHeap = Laid<Slots>;
