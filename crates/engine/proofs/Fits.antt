@@ -1,6 +1,5 @@
 -- Whether values fit types, by the kind of a value, and value by value. Assumes nothing.
-use Rattle.std.proofs.Common.{◌≡◌, ℕ, ◌+◌, ◌<◌, ◌≤◌, Bool, true, false, ◌&&◌, List, [], ◌∷◌, length, get_or, drop, ℤ, Some, None, refl, arith}
-use Rattle.std.proofs.lemmas.List.{drop_more, drop_all}
+use Rattle.std.proofs.Common.{◌≡◌, ℕ, Bool, true, false, ◌&&◌, List, [], ◌∷◌, length, ℤ, Some, None, refl, arith}
 use Rattle.std.proofs.lemmas.Bool.{and_parts}
 use Rattle.heap.specs.declared.value.Value.{Value}
 use Rattle.heap.specs.declared.value.Value.TheVariants as value
@@ -68,9 +67,6 @@ module _ (P : Program) (h : Meaning) where
       go true e = absurd (u (fit_length vs ts e))
       go false e = refl
 
-  -- from one value on
-  pub fit_more : (vs : List Value) (ts : List Ty) (i : ℕ) (v : Value) (t : Ty) {b : Bool} → i < length vs → i < length ts → fits P h (get_or vs i v) (get_or ts i t) ≡ b → fit_all P h (drop i vs) (drop i ts) ≡ (b && fit_all P h (drop (i + 1) vs) (drop (i + 1) ts))
-  fit_more vs ts i v t l m e = rw (drop_more vs i v l, drop_more ts i t m, e)
-
-  pub fit_done : (vs : List Value) (ts : List Ty) (i : ℕ) → length vs ≤ i → length ts ≤ i → true ≡ fit_all P h (drop i vs) (drop i ts)
-  fit_done vs ts i l m = rw (drop_all i vs l, drop_all i ts m)
+  -- one value, and those behind it
+  pub fit_next : {vs vs' : List Value} {ts ts' : List Ty} {v : Value} {t : Ty} {b : Bool} → vs ≡ v ∷ vs' → ts ≡ t ∷ ts' → b ≡ fits P h v t → fit_all P h vs ts ≡ (b && fit_all P h vs' ts')
+  fit_next e f g = rw (e, f, ← g)

@@ -1,5 +1,5 @@
 -- Calls and returns among the frames that stand. Assumes nothing.
-use Rattle.std.specs.Prelude.{◌≡◌, ℕ, suc, ◌+◌, ◌-◌, ◌<◌, ◌≤◌, Bool, true, cond, List, [], ◌∷◌, ◌++◌, reverse, length, take, drop, replicate, Some, Option, nat_lt, slice_index_or}
+use Rattle.std.specs.Prelude.{◌≡◌, ℕ, suc, ◌+◌, ◌-◌, ◌<◌, ◌≤◌, Bool, true, cond, List, [], ◌∷◌, ◌++◌, reverse, length, take, drop, replicate, Some, Option, nat_lt}
 use Rattle.heap.specs.declared.value.Value.{Value}
 use Rattle.heap.specs.declared.value.Value.TheVariants as value
 use Rattle.heap.specs.Meaning.{Meaning}
@@ -7,7 +7,6 @@ use Rattle.jinja.specs.Options.{◌>>◌}
 use Rattle.jinja.specs.Program.{Program}
 use Rattle.jinja.specs.Lookups.{Owned}
 use Rattle.jinja.specs.Step.{Frame, Next, goes, frames_full, frame_limit, call, return_to}
-use Rattle.engine.specs.declared.frame.Frame.{Frame as Memory}
 use Rattle.engine.specs.Limits.{cell_limit}
 use Rattle.engine.specs.Stepping.{top_stack, past_with}
 
@@ -18,10 +17,6 @@ arguments n st = reverse (take n st)
 -- the first frame of the method of number k, with so many registers besides
 abbrev pub fresh : ℕ → ℕ → List Value → ℕ → Frame
 fresh k this args extras = record { method = k; pc = 0; stack = []; registers = value.Addr this ∷ args ++ replicate extras value.Unit }
-
--- the first n of these values stand in the registers of the frame at k, behind the first one
-abbrev pub Handed : List Value → List Memory → ℕ → ℕ → Type 0
-Handed vs fs k n = (d : Memory) → take n (drop 1 (slice_index_or fs k d).registers) ≡ take n vs
 
 -- the method that the object at a sees by the name m, on top, with n arguments from the top frame
 abbrev pub call_top : Program → Meaning → ℕ → ℕ → ℕ → Owned → List Frame → Option Next

@@ -100,8 +100,8 @@ fn start_own(row: &mut [Value], start: usize, own: &[Field])
     ensures started { Started own.now start row.new }
     ensures above { SameFrom (start + length own.now) row.old row.new }
 {
-    for i in 0..own.len() {
-        row[start + i] = start_value(own[i].ty);
+    for (i, field) in own.iter().enumerate() {
+        row[start + i] = start_value(field.ty);
     }
 }
 
@@ -113,7 +113,6 @@ fn start_value(ty: Ty) -> Value
         Ty::Void => Value::Unit,
         Ty::Boolean => Value::Bool(false),
         Ty::Integer => Value::Int(0),
-        Ty::NullType => Value::Null,
-        Ty::Class(_) => Value::Null,
+        Ty::NullType | Ty::Class(_) => Value::Null,
     }
 }

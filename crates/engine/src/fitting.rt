@@ -10,12 +10,8 @@ ghost use Rattle.tables.specs.Views.{program_of};
 use crate::objects::class_at;
 use heap::store::Heap;
 use heap::value::Value;
-use jinja::program::ClassNumber;
 use jinja::ty::Ty;
 use tables::tables::Tables;
-
-/// The number of the first class among the types.
-const FIRST_CLASS: u16 = 4;
 
 // Whether the value fits the type.
 pub(crate) fn fits<H: Heap>(tables: &Tables, heap: &H, v: Value, t: Ty) -> bool
@@ -23,7 +19,7 @@ pub(crate) fn fits<H: Heap>(tables: &Tables, heap: &H, v: Value, t: Ty) -> bool
 {
     match v {
         Value::Addr(a) => match class_at(heap, a) {
-            Some(c) => class_fits(tables, c, t),
+            Some(c) => tables.class_at_or_below(c, t),
             None => false,
         },
         _ => fits_alone(tables, v, t),
@@ -35,10 +31,10 @@ fn fits_alone(tables: &Tables, v: Value, t: Ty) -> bool
     ensures { (ls : List ChargeLine) → result ≡ fits (program_of tables.now) (vacant ls) v t }
 {
     match v {
-        Value::Unit => is_type(Ty::Void, t),
-        Value::Null => null_fits(tables, t),
-        Value::Bool(_) => is_type(Ty::Boolean, t),
-        Value::Int(_) => is_type(Ty::Integer, t),
+        Value::Unit => t == Ty::Void,
+        Value::Null => tables.null_at_or_below(t),
+        Value::Bool(_) => t == Ty::Boolean,
+        Value::Int(_) => t == Ty::Integer,
         Value::Addr(_) => false,
     }
 }
@@ -50,8 +46,8 @@ pub(crate) fn fit_all<H: Heap>(tables: &Tables, heap: &H, values: &[Value], type
     if values.len() != types.len() {
         return false;
     }
-    for i in 0..values.len() {
-        if !fits(tables, heap, values[i], types[i]) {
+    for (v, t) in values.iter().zip(types) {
+        if !fits(tables, heap, *v, *t) {
             return false;
         }
     }
@@ -65,56 +61,10 @@ pub(crate) fn fit_alone(tables: &Tables, values: &[Value], types: &[Ty]) -> bool
     if values.len() != types.len() {
         return false;
     }
-    for i in 0..values.len() {
-        if !fits_alone(tables, values[i], types[i]) {
+    for (v, t) in values.iter().zip(types) {
+        if !fits_alone(tables, *v, *t) {
             return false;
         }
     }
     true
-}
-
-// Whether Null fits the type.
-fn null_fits(tables: &Tables, t: Ty) -> bool
-    ensures { result ≡ null_le (program_of tables.now) t }
-{
-    match t {
-        Ty::Void => false,
-        Ty::Boolean => false,
-        Ty::Integer => false,
-        Ty::NullType => true,
-        Ty::Class(d) => tables.is_class(d),
-    }
-}
-
-// Whether an object of class `c` fits the type.
-fn class_fits(tables: &Tables, c: ClassNumber, t: Ty) -> bool
-    ensures { result ≡ class_le (program_of tables.now) c t }
-{
-    match t {
-        Ty::Void => false,
-        Ty::Boolean => false,
-        Ty::Integer => false,
-        Ty::NullType => false,
-        Ty::Class(d) => tables.at_or_below(c, d),
-    }
-}
-
-// Whether two types are the same.
-fn is_type(t: Ty, u: Ty) -> bool
-    ensures { result ≡ same_type t u }
-{
-    number_of(t) == number_of(u)
-}
-
-// The number of a type.
-fn number_of(t: Ty) -> u16
-    ensures { result ≡ type_number t }
-{
-    match t {
-        Ty::Void => 0,
-        Ty::Boolean => 1,
-        Ty::Integer => 2,
-        Ty::NullType => 3,
-        Ty::Class(c) => FIRST_CLASS + c as u16,
-    }
 }

@@ -6,7 +6,7 @@ ghost use Rattle.jinja.specs.Step.{frame_limit};
 ghost use Rattle.engine.specs.Limits.{register_limit};
 ghost use Rattle.engine.specs.Views.{frame_of, lowest_frames, frames_of};
 ghost use Rattle.engine.specs.Stepping.{top_pc, top_stack};
-ghost use Rattle.engine.specs.Calling.{arguments, fresh, Handed};
+ghost use Rattle.engine.specs.Calling.{arguments, fresh};
 
 use crate::frame::{CELLS, Frame, REGISTERS};
 use crate::frames::{Frames, MAX_FRAMES};
@@ -79,23 +79,8 @@ fn open_at(frames: &mut [Frame], at: usize, k: usize, this: u16, n: usize, extra
     ensures after { lowest_frames frames.new (at + 1) ≡ fresh k this (arguments n (top_stack (lowest_frames frames.old at))) extras ∷ lowest_frames frames.old at }
     ensures below { take at frames.new ≡ take at frames.old }
 {
-    hand_over(frames, at, n);
-    frames[at].start(k, this, n, extras);
-}
-
-// The `n` topmost operands of the frame below stand in the registers of the frame at `at`, behind the first one.
-fn hand_over(frames: &mut [Frame], at: usize, n: usize)
-    requires some { 0 < at }
-    requires within { at < length frames.old }
-    requires high { n ≤ length (top_stack (lowest_frames frames.old at)) }
-    requires few { 1 + n ≤ register_limit }
-    ensures handed { Handed (arguments n (top_stack (lowest_frames frames.old at))) frames.new at n }
-    ensures below { take at frames.new ≡ take at frames.old }
-{
-    for i in 0..n {
-        let value = frames[at - 1].argument(n, i);
-        frames[at].put(1 + i, value);
-    }
+    let (below, above) = frames.split_at_mut(at);
+    above[0].open(k, this, below[at - 1].arguments(n), extras);
 }
 
 impl Frame {
@@ -104,56 +89,14 @@ impl Frame {
         requires { 1 + length args.now + extras ≤ register_limit }
         ensures { frame_of self.new ≡ fresh k this args.now extras }
     {
-        hand(&mut self.registers, args);
-        self.start(k, this, args.len(), extras);
-    }
-
-    // The `i`-th of the `n` topmost operands, the lowest first.
-    fn argument(&self, n: usize, i: usize) -> Value
-        requires few { i < n }
-        requires high { n ≤ self.now.height }
-        ensures { result ≡ slice_index_or (arguments n (frame_of self.now).stack) i unit }
-    {
-        self.cells[self.height - n + i]
-    }
-
-    fn put(&mut self, i: usize, value: Value)
-        requires { i < register_limit }
-        ensures { self.new.registers ≡ slice_set self.old.registers i value }
-    {
-        self.registers[i] = value;
-    }
-
-    // The frame of a method at its first instruction, whose `n` arguments stand in the registers behind the first one.
-    fn start(&mut self, k: usize, this: u16, n: usize, extras: usize)
-        requires { 1 + n + extras ≤ register_limit }
-        ensures { frame_of self.new ≡ fresh k this (take n (drop 1 self.old.registers)) extras }
-    {
+        let given = 1 + args.len();
         self.method = k;
         self.pc = 0;
         self.height = 0;
-        self.register_count = 1 + n + extras;
-        self.registers[0] = Value::Addr(this);
-        clear(&mut self.registers, 1 + n, extras);
-    }
-}
-
-// The arguments stand in the registers behind the first one.
-fn hand(registers: &mut [Value], args: &[Value])
-    requires { 1 + length args.now ≤ length registers.old }
-    ensures { take (length args.now) (drop 1 registers.new) ≡ args.now }
-{
-    for i in 0..args.len() {
-        registers[1 + i] = args[i];
-    }
-}
-
-// So many registers from a place on hold Unit.
-fn clear(registers: &mut [Value], from: usize, count: usize)
-    requires { from + count ≤ length registers.old }
-    ensures { take (from + count) registers.new ≡ take from registers.old ++ replicate count unit }
-{
-    for i in 0..count {
-        registers[from + i] = Value::Unit;
+        self.register_count = given + extras;
+        let registers: &mut [Value] = &mut self.registers;
+        registers[0] = Value::Addr(this);
+        registers[1..given].copy_from_slice(args);
+        registers[given..given + extras].fill(Value::Unit);
     }
 }

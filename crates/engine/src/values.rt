@@ -46,10 +46,5 @@ pub(crate) fn place_from(pc: usize, z: i16) -> Option<usize>
     requires { pc ≤ max_instrs }
     ensures { result ≡ jump pc z }
 {
-    let place = pc as i32 + z as i32;
-    if place < 0 {
-        None
-    } else {
-        Some(place as usize)
-    }
+    usize::try_from(pc as i32 + z as i32).ok()
 }

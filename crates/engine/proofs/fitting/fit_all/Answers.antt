@@ -1,8 +1,7 @@
-use Rattle.std.proofs.Common.{sym, ◌∙◌, arith}
-use Rattle.heap.specs.declared.value.Value.TheVariants.{Unit as unit}
-use Rattle.jinja.specs.declared.ty.Ty.TheVariants.{Void}
+use Rattle.std.proofs.Common.{length, sym, ap, ◌∙◌, arith}
+use Rattle.std.proofs.lemmas.Iterator.{empty_from_Zip}
 use Rattle.tables.specs.Views.{program_of}
-use Rattle.engine.proofs.Fits.{fit_uneven, fit_more, fit_done}
+use Rattle.engine.proofs.Fits.{fit_uneven, fit_next}
 use Rattle.engine.proofs.fitting.fit_all.Goals as goal
 
 pub returns-then-values-types : goal.returns-then-values-types
@@ -10,12 +9,17 @@ returns-then-values-types g c = fit_uneven (program_of c.args.tables.now) (g.H.H
 
 pub returns-then-not-fits : goal.returns-then-not-fits
 returns-then-not-fits g c =
-    sym (c.loop-i.invariant ∙ fit_more (program_of c.args.tables.now) (g.H.Heap.meaning c.args.heap.now) c.args.values.now c.args.types.now c.loop-i.i unit Void (omega arith) (omega arith) (sym c.if-not-fits.ensures))
+    let s = c.in-Some.ensures.steps in
+    sym (c.loop-v.invariant.all ∙ fit_next (program_of c.args.tables.now) (g.H.Heap.meaning c.args.heap.now) s.0 s.1 c.if-not-fits.ensures)
 
-pub loop-i-preserved : goal.loop-i-preserved
-loop-i-preserved g c =
-    c.loop-i.invariant ∙ fit_more (program_of c.args.tables.now) (g.H.Heap.meaning c.args.heap.now) c.args.values.now c.args.types.now c.loop-i.i unit Void (omega arith) (omega arith) (sym c.if-not-fits.ensures)
+pub loop-v-preserved : goal.loop-v-preserved
+loop-v-preserved g c =
+    let s = c.in-Some.ensures.steps in
+    let v = ap length s.0 in
+    let t = ap length s.1 in
+    record { all = c.loop-v.invariant.all ∙ fit_next (program_of c.args.tables.now) (g.H.Heap.meaning c.args.heap.now) s.0 s.1 c.if-not-fits.ensures; even = omega (arith, c.loop-v.invariant.even) }
 
 pub returns : goal.returns
 returns g c =
-    fit_done (program_of c.args.tables.now) (g.H.Heap.meaning c.args.heap.now) c.args.values.now c.args.types.now c.loop-i.i (omega arith) (omega arith) ∙ sym c.loop-i.invariant
+    let e = empty_from_Zip c.loop-v.v-iterator c.next.new.self c.next.result c.in-None.is c.next.ensures.steps c.loop-v.invariant.even in
+    sym (rw (e.0, e.1) at c.loop-v.invariant.all)

@@ -1,9 +1,8 @@
-use Rattle.std.proofs.Common.{sym, ◌∙◌, arith}
-use Rattle.heap.specs.declared.value.Value.TheVariants.{Unit as unit}
-use Rattle.jinja.specs.declared.ty.Ty.TheVariants.{Void}
+use Rattle.std.proofs.Common.{length, sym, ap, ◌∙◌, arith}
+use Rattle.std.proofs.lemmas.Iterator.{empty_from_Zip}
 use Rattle.heap.specs.Calls.{vacant}
 use Rattle.tables.specs.Views.{program_of}
-use Rattle.engine.proofs.Fits.{fit_uneven, fit_more, fit_done}
+use Rattle.engine.proofs.Fits.{fit_uneven, fit_next}
 use Rattle.engine.proofs.fitting.fit_alone.Goals as goal
 
 pub returns-then-values-types : goal.returns-then-values-types
@@ -11,12 +10,17 @@ returns-then-values-types c ls = fit_uneven (program_of c.args.tables.now) (vaca
 
 pub returns-then-not-fits_alone : goal.returns-then-not-fits_alone
 returns-then-not-fits_alone c ls =
-    sym (c.loop-i.invariant ls ∙ fit_more (program_of c.args.tables.now) (vacant ls) c.args.values.now c.args.types.now c.loop-i.i unit Void (omega arith) (omega arith) (sym (c.if-not-fits_alone.ensures ls)))
+    let s = c.in-Some.ensures.steps in
+    sym (c.loop-v.invariant.all ls ∙ fit_next (program_of c.args.tables.now) (vacant ls) s.0 s.1 (c.if-not-fits_alone.ensures ls))
 
-pub loop-i-preserved : goal.loop-i-preserved
-loop-i-preserved c ls =
-    c.loop-i.invariant ls ∙ fit_more (program_of c.args.tables.now) (vacant ls) c.args.values.now c.args.types.now c.loop-i.i unit Void (omega arith) (omega arith) (sym (c.if-not-fits_alone.ensures ls))
+pub loop-v-preserved : goal.loop-v-preserved
+loop-v-preserved c =
+    let s = c.in-Some.ensures.steps in
+    let v = ap length s.0 in
+    let t = ap length s.1 in
+    record { all = λ ls. c.loop-v.invariant.all ls ∙ fit_next (program_of c.args.tables.now) (vacant ls) s.0 s.1 (c.if-not-fits_alone.ensures ls); even = omega (arith, c.loop-v.invariant.even) }
 
 pub returns : goal.returns
 returns c ls =
-    fit_done (program_of c.args.tables.now) (vacant ls) c.args.values.now c.args.types.now c.loop-i.i (omega arith) (omega arith) ∙ sym (c.loop-i.invariant ls)
+    let e = empty_from_Zip c.loop-v.v-iterator c.next.new.self c.next.result c.in-None.is c.next.ensures.steps c.loop-v.invariant.even in
+    sym (rw (e.0, e.1) at (c.loop-v.invariant.all ls))
