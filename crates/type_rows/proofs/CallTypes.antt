@@ -1,7 +1,6 @@
 -- The receiver and the arguments of a call, on a stack of types. Assumes nothing.
 use Rattle.std.proofs.Common.{◌≡◌, ℕ, zero, suc, ◌+◌, ◌-◌, ◌<◌, ◌≤◌, Bool, true, false, ◌&&◌, List, [], ◌∷◌, ◌++◌, map, reverse, length, get_or, take, drop, IfSome, Some, None, Option, sym, refl, ap, ◌∙◌, arith}
 use Rattle.std.proofs.lemmas.List.{append-nil, append_assoc, reverse-append, drop-map, drop_more, drop_all, get_or-reverse, get_or-take, get_or-drop, length-reverse, length-take-le}
-use Rattle.std.specs.Prelude.{Ok, Err, Result, is_ok}
 use Rattle.jinja.specs.declared.ty.Ty.{Ty}
 use Rattle.jinja.specs.declared.ty.Ty.TheVariants.{Class}
 use Rattle.jinja.specs.Program.{MethodDecl, Program}
@@ -12,11 +11,10 @@ use Rattle.jinja.specs.Options.{◌>>=◌, ◌>>◌}
 use Rattle.jinja.specs.Lookups.{Owned, method_at, sees}
 use Rattle.jinja.specs.Rows.{Cell}
 use Rattle.jinja.specs.Rule.{operands, taken, operands_of, next}
-use Rattle.stack.specs.Stacked.{held, Discarded}
+use Rattle.stack.specs.Stacked.{held}
 use Rattle.tables.specs.Methods.{unowned}
 use Rattle.type_rows.specs.Calling.{arguments, call_operands, SeenType, called}
 use Rattle.type_rows.specs.Numbers.{types_in}
-use Rattle.type_rows.proofs.Cells.{types_height}
 
 after_drop : {A : Type 0} (i : ℕ) (l : List A) {x : A} {r : List A} → drop i l ≡ x ∷ r → drop (suc i) l ≡ r
 after_drop zero [] e = absurd (let z = ap length e in omega arith)
@@ -107,10 +105,6 @@ receiver_seen st n (Some t) s = record { are = operands_are n st t s; held = lon
     longer zero (a ∷ st) e = omega arith
     longer (suc n) [] e = absurd (let z = ap length e in omega arith)
     longer (suc n) (a ∷ st) e = let l = longer n st e in omega arith
-
-pub discarded_types : {E : Type 0} (xs : List ℕ) (h n : ℕ) (ys : List ℕ) (k : ℕ) (r : Result (Unit {0}) E) → h ≤ length xs → n ≤ length (types_in xs h) → Discarded xs h n ys k r → (is_ok r ≡ true) × (types_in ys k ≡ drop n (types_in xs h)) × (ys ≡ xs)
-discarded_types xs h n ys k (Ok _) w l d = (refl, ap (map type_of_number) d.2 ∙ sym (drop-map type_of_number n (held xs h)), d.1)
-discarded_types xs h n ys k (Err _) w l d = let e = types_height xs h w in absurd (omega (arith, d.0))
 
 -- a call by the number of the method
 pub call_sent : (P : Program) (M : Owned) (m pc c k : ℕ) (lt : List Cell) (args rest : List Ty) → sees P c m ≡ Some k → send_call P M m pc lt (operands args (Class c) rest) ≡ called P M k pc lt args rest

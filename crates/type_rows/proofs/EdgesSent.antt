@@ -1,11 +1,9 @@
 -- The edges of an instruction by their numbers, and the row that an edge sends. Assumes nothing.
 use Rattle.std.proofs.Common.{◌≡◌, ℕ, zero, suc, ◌+◌, ◌-◌, ◌<◌, ◌≤◌, false, List, length, get_or, ℤ, IfSome, Some, None, Option, sym, refl, ap, ◌∙◌, subst, arith, MatchOption}
 use Rattle.std.specs.List.{slice_get}
-use Rattle.std.proofs.lemmas.Option.{slice_get-get_or, slice_get_past}
 use Rattle.jinja.specs.declared.ty.Ty.{Ty}
 use Rattle.jinja.specs.declared.instr.Instr.{Instr}
 use Rattle.jinja.specs.declared.instr.Instr.TheVariants.{IfFalse}
-use Rattle.jinja.specs.declared.program.Handler.{Handler}
 use Rattle.jinja.specs.Program.{Program}
 use Rattle.jinja.specs.Classes.{maybe}
 use Rattle.jinja.specs.Lookups.{Owned, method_at}
@@ -35,16 +33,6 @@ module _ (P : Program) (M : Owned) (i : Instr) (pc : ℕ) (st : List Ty) (lt : L
   later_edge zero l = absurd (omega arith)
   later_edge (suc zero) l = absurd (omega arith)
   later_edge (suc (suc e)) l = let z : suc (suc e) - 2 ≡ e = omega arith in rw z
-
-  pub no_edge : (e : ℕ) {xs : List Handler} → xs ≡ M.method.handlers → 2 ≤ e → length xs ≤ e - 2 → edge_of P M i pc e st lt ≡ nothing
-  no_edge e {xs} q l n = later_edge e l ∙ ap (λ (o : Option Handler). maybe o nothing (λ x. to_handler P x i pc st lt)) (ap (λ (ys : List Handler). slice_get ys (e - 2)) (sym q) ∙ slice_get_past xs (e - 2) n)
-
-pub handler_found : {xs ys : List Handler} (j : ℕ) (d : Handler) → xs ≡ ys → j < length xs → slice_get ys j ≡ Some (get_or xs j d)
-handler_found {xs} j d q l = ap (λ (l : List Handler). slice_get l j) (sym q) ∙ slice_get-get_or xs j d l
-
-pub reached_anyway : (r : Option ℕ) {xs : List ℕ} → Reached xs → IfSome r (λ _. Reached xs)
-reached_anyway None a = tt
-reached_anyway (Some k) a = a
 
 -- a method with an instruction is one of the program
 pub method_found : (o : Option Owned) (pc : ℕ) → pc < length (maybe o no_method (λ m. m)).method.code → o ≡ Some (maybe o no_method (λ m. m))

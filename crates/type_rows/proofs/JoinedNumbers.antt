@@ -1,10 +1,9 @@
 -- Cells joined in place, one after another, with word whether that changed one. Assumes nothing.
-use Rattle.std.proofs.Common.{◌≡◌, ℕ, zero, suc, ◌+◌, ◌<◌, ◌≤◌, Bool, true, false, List, [], ◌∷◌, length, get_or, drop, set, MatchBool, sym, refl, ap, ◌∙◌, subst, arith}
-use Rattle.std.proofs.lemmas.List.{drop_more, drop_all, get_or-set_same, set-get_or}
-use Rattle.std.proofs.lemmas.Bool.{eq-eqb, ne_eqb}
+use Rattle.std.proofs.Common.{◌≡◌, ℕ, zero, suc, ◌+◌, ◌<◌, ◌≤◌, Bool, true, List, [], ◌∷◌, length, get_or, set, MatchBool, sym, refl, ap, ◌∙◌, subst, arith}
+use Rattle.std.proofs.lemmas.List.{get_or-set_same, set-get_or}
 use Rattle.jinja.specs.Program.{Program}
-use Rattle.type_rows.specs.Joining.{join_number, join_numbers, has_absent}
-use Rattle.type_rows.specs.Numbers.{absent, largest, Small}
+use Rattle.type_rows.specs.Joining.{join_number, join_numbers}
+use Rattle.type_rows.specs.Numbers.{largest, Small}
 use Rattle.type_rows.proofs.Cells.{small_set, small_same}
 
 -- the first k are joined
@@ -66,13 +65,3 @@ module _ (P : Program) where
   all_joined (x ∷ xs) [] k e l = absurd (omega arith)
   all_joined (x ∷ xs) (y ∷ ys) zero e l = absurd (omega arith)
   all_joined (x ∷ xs) (y ∷ ys) (suc k) e l = ap (λ (zs : List ℕ). join_number P x y ∷ zs) (all_joined xs ys k (omega arith) (omega arith))
-
-module _ (xs : List ℕ) (k : ℕ) where
-  pub absent_here : k < length xs → get_or xs k 0 ≡ absent → has_absent (drop k xs) ≡ true
-  absent_here l e = ap has_absent (drop_more xs k 0 l) ∙ rw (eq-eqb (get_or xs k 0) absent e)
-
-  pub present_here : k < length xs → (get_or xs k 0 ≡ absent → ⊥) → has_absent (drop k xs) ≡ has_absent (drop (k + 1) xs)
-  present_here l n = ap has_absent (drop_more xs k 0 l) ∙ rw (ne_eqb (get_or xs k 0) absent n)
-
-  pub none_absent : length xs ≤ k → has_absent (drop k xs) ≡ false
-  none_absent l = ap has_absent (drop_all k xs l)

@@ -7,7 +7,6 @@ pub mod RowWritten
 pub mod Reading
 pub mod Changed
 pub mod CallTypes
-pub mod Passing
 pub mod Refused
 pub mod Nearest
 pub mod Solved

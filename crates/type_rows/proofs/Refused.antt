@@ -68,6 +68,3 @@ code_unowned (Some N) p e = rw (← e)
 pub handlers_unowned : (o : Option Owned) (p : Option MethodDecl) → unowned o ≡ p → maybe p [] (λ m. m.handlers) ≡ (maybe o no_method (λ m. m)).method.handlers
 handlers_unowned None p e = rw (← e)
 handlers_unowned (Some N) p e = rw (← e)
-
-pub pass_same : (P : Program) (i : Instr) (pc : ℕ) {h h' l l' e e' : ℕ} {xs xs' : List Handler} → h ≡ h' → l ≡ l' → e ≡ e' → xs ≡ xs' → handlers_pass P i pc h l e xs ≡ handlers_pass P i pc h' l' e' xs'
-pass_same P i pc p q r s = rw (p, q, r, s)

@@ -1,5 +1,6 @@
 -- Cells joined as numbers, pair by pair, and when a row is the same as before. Assumes nothing.
-use Rattle.std.specs.Prelude.{◌≡◌, ℕ, Bool, false, ◌||◌, List, [], ◌∷◌, take, drop, ◌==◌}
+use Rattle.std.specs.Prelude.{◌≡◌, ℕ, Bool, List, [], ◌∷◌, take, drop, ◌==◌}
+use Rattle.std.specs.List.{list_any}
 use Rattle.jinja.specs.Program.{Program}
 use Rattle.jinja.specs.Join.{join_cell}
 use Rattle.type_rows.specs.Numbers.{absent, cell_number, cell_of_number}
@@ -14,8 +15,7 @@ join_numbers P (x ∷ xs) [] = []
 join_numbers P (x ∷ xs) (y ∷ ys) = join_number P x y ∷ join_numbers P xs ys
 
 abbrev pub has_absent : List ℕ → Bool
-has_absent [] = false
-has_absent (x ∷ xs) = x == absent || has_absent xs
+has_absent xs = list_any (λ x. x == absent) xs
 
 -- two rows of height h show the same numbers where there are n registers
 pub record SameNumbers (h n : ℕ) (xs ys : List ℕ) : Type 0 where

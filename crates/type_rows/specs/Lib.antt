@@ -1,5 +1,4 @@
 -- The definitions that the contracts of type rows cite.
-pub mod Passing
 pub mod Merging
 pub mod MergeOrder
 pub mod MergeLaws
@@ -12,6 +11,7 @@ pub mod Numbers
 pub mod Registers
 pub mod Calling
 pub mod Leading
+pub mod TypeFrames
 pub mod Stepping
 pub mod RowSteps
 pub mod Refusing

@@ -1,5 +1,6 @@
 -- The tests by which an instruction refuses a row: its needs, where its edges end, and its handlers. Assumes nothing.
-use Rattle.std.specs.Prelude.{ℕ, Bool, true, cond, ◌&&◌, List, [], ◌∷◌, nat_le, nat_lt}
+use Rattle.std.specs.Prelude.{ℕ, Bool, true, cond, ◌&&◌, List, nat_le, nat_lt}
+use Rattle.std.specs.List.{list_all}
 use Rattle.jinja.specs.declared.instr.Instr.{Instr}
 use Rattle.jinja.specs.declared.program.Handler.{Handler}
 use Rattle.jinja.specs.Program.{Program}
@@ -15,5 +16,4 @@ abbrev pub handler_passes : Program → Instr → ℕ → ℕ → ℕ → ℕ �
 handler_passes P i pc height limit end x = cond (is_relevant P i pc x) (handler_suits P x height limit end) true
 
 abbrev pub handlers_pass : Program → Instr → ℕ → ℕ → ℕ → ℕ → List Handler → Bool
-handlers_pass P i pc height limit end [] = true
-handlers_pass P i pc height limit end (x ∷ xs) = handler_passes P i pc height limit end x && handlers_pass P i pc height limit end xs
+handlers_pass P i pc height limit end xs = list_all (handler_passes P i pc height limit end) xs

@@ -1,18 +1,16 @@
--- A step of a method over a stack of types and registers: what its instruction sends, or nothing where a need fails.
-use Rattle.std.specs.Prelude.{◌≡◌, ℕ, List, length, Option}
-use Rattle.format.specs.Limits.{max_height}
-use Rattle.jinja.specs.declared.ty.Ty.{Ty}
+-- A step of a method over a frame of types: what its instruction sends, or nothing where a need fails.
+use Rattle.std.specs.Prelude.{◌≡◌, ℕ, Option}
 use Rattle.jinja.specs.declared.instr.Instr.{Instr}
 use Rattle.jinja.specs.Program.{Program}
 use Rattle.jinja.specs.Lookups.{Owned}
 use Rattle.jinja.specs.Transfer.{transfer}
-use Rattle.stack.specs.declared.Stack.{Stack}
 use Rattle.tables.specs.Views.{program_of}
+use Rattle.type_rows.specs.declared.frame.TypeFrame.{TypeFrame}
 use Rattle.type_rows.specs.declared.leads.Leads.{Leads}
 use Rattle.type_rows.specs.declared.method.Method.{Method}
 use Rattle.type_rows.specs.Leading.{told}
 use Rattle.type_rows.specs.Methods.{the_method}
-use Rattle.type_rows.specs.Numbers.{Small, types_in, cells_in}
+use Rattle.type_rows.specs.TypeFrames.{frame_types, frame_cells}
 
 abbrev pub program : Method → Program
 program m = program_of m.tables.now
@@ -20,16 +18,9 @@ program m = program_of m.tables.now
 abbrev pub owned : Method → Owned
 owned m = the_method (program m) m.number
 
--- the types of a stack of cells, the top first
-abbrev pub types_of : Stack ℕ → List Ty
-types_of s = types_in s.cells.now s.height
-
--- a stack of 16 cells that hold small numbers
-abbrev pub Ready : Stack ℕ → Type 0
-Ready s = Small s.cells.now × (length s.cells.now ≡ max_height)
-
-abbrev pub Steps : Method → Instr → ℕ → Stack ℕ → List ℕ → Option Leads → Stack ℕ → List ℕ → Type 0
-Steps m i pc s lt r s' lt' = transfer (program m) (owned m) i pc (types_of s) (cells_in lt) ≡ told r pc (types_of s') (cells_in lt')
+-- what the instruction sends from one frame, by where it leads and the frame that it makes of it
+abbrev pub Steps : Method → Instr → ℕ → TypeFrame → Option Leads → TypeFrame → Type 0
+Steps m i pc f r g = transfer (program m) (owned m) i pc (frame_types f) (frame_cells m.registers f) ≡ told r pc (frame_types g) (frame_cells m.registers g)
 
 -- m is the method of the number k in the program P
 pub record MethodOf (P : Program) (k : ℕ) (m : Method) : Type 0 where

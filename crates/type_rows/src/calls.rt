@@ -1,48 +1,36 @@
 // Calls: the receiver, the arguments and the method that is called.
-ghost use Rattle.std.specs.Prelude.{◌≡◌, ◌+◌, ◌<◌, ◌≤◌, true, length, drop, Some, None, OnSome};
+ghost use Rattle.std.specs.Prelude.{◌≡◌, ℕ, ◌+◌, ◌<◌, length, drop, Some, None, OnSome};
 ghost use Rattle.jinja.specs.Rule.{operands_of};
 ghost use Rattle.jinja.specs.Classes.{maybe};
 ghost use Rattle.jinja.specs.Transfer.{types_le, send_call};
 ghost use Rattle.tables.specs.Views.{program_of};
-ghost use Rattle.type_rows.specs.Calling.{arguments, call_operands, SeenType, params_at, result_at, called};
+ghost use Rattle.type_rows.specs.Calling.{arguments, call_operands, params_at, result_at, called};
 ghost use Rattle.type_rows.specs.Leading.{told};
-ghost use Rattle.type_rows.specs.Numbers.{Small, cells_in};
-ghost use Rattle.type_rows.specs.Stepping.{program, owned, types_of, Ready, Steps};
+ghost use Rattle.type_rows.specs.Stepping.{program, owned, Steps};
+ghost use Rattle.type_rows.specs.TypeFrames.{frame_types, frame_cells};
 
+use crate::frame::TypeFrame;
 use crate::leads::Leads;
 use crate::method::Method;
-use crate::operands::push;
-use crate::types::{lies_below, type_of};
+use crate::types::lies_below;
 use jinja::instr::Instr;
+use jinja::program::{ClassNumber, Name};
 use jinja::ty::Ty;
-use stack::Stack;
 use tables::tables::Tables;
 
-/// The type with `i` types above it.
-pub fn type_below(stack: &Stack<u16>, i: usize) -> Option<Ty>
-    requires { Small stack.now.cells.now }
-    ensures { SeenType (types_of stack.now) i result }
-{
-    match stack.below(i) {
-        Some(n) => Some(type_of(n)),
-        None => None,
-    }
-}
-
 /// Whether the `n` topmost types are as the parameters ask.
-pub fn arguments_fit(tables: &Tables, stack: &Stack<u16>, n: usize, params: &[Ty]) -> bool
-    requires small { Small stack.now.cells.now }
-    requires held { n < length (types_of stack.now) }
-    ensures { result ≡ types_le (program_of tables.now) (arguments n (types_of stack.now)) params.now }
+fn arguments_fit(tables: &Tables, frame: &TypeFrame, n: usize, params: &[Ty]) -> bool
+    requires { n < length (frame_types frame.now) }
+    ensures { result ≡ types_le (program_of tables.now) (arguments n (frame_types frame.now)) params.now }
 {
     if params.len() != n {
         return false;
     }
-    for j in 0..n {
-        let Some(t) = type_below(stack, n - 1 - j) else {
+    for (j, param) in params.iter().enumerate() {
+        let Some(t) = frame.below(n - 1 - j) else {
             return false;
         };
-        if !lies_below(tables, t, params[j]) {
+        if !lies_below(tables, t, *param) {
             return false;
         }
     }
@@ -61,98 +49,48 @@ impl<'a> Method<'a> {
     fn result_at(&self, k: usize) -> Option<Ty>
         ensures { result ≡ result_at (program self.now) k }
     {
-        match self.tables.method(k) {
-            Some(method) => Some(method.result),
-            None => None,
-        }
+        Some(self.tables.method(k)?.result)
     }
 
     // The call of the method `k` with the `n` topmost types and a receiver under them.
-    fn step_method(
-        &self,
-        pc: usize,
-        k: usize,
-        n: u8,
-        stack: &mut Stack<u16>,
-        registers: &[u16],
-    ) -> Option<Leads>
-        requires ready { Ready stack.old }
-        requires held { n < length (types_of stack.old) }
-        ensures sends { called (program self.now) (owned self.now) k pc (cells_in registers.now) (arguments n (types_of stack.old)) (drop (n + 1) (types_of stack.old)) ≡ told result pc (types_of stack.new) (cells_in registers.now) }
-        ensures ready { Ready stack.new }
-        ensures same { stack.new.cells.ghost_name ≡ stack.old.cells.ghost_name }
+    fn step_method(&self, k: usize, n: u8, frame: &mut TypeFrame) -> Option<Leads>
+        requires { n < length (frame_types frame.old) }
+        ensures { (pc : ℕ) → called (program self.now) (owned self.now) k pc (frame_cells self.now.registers frame.old) (arguments n (frame_types frame.old)) (drop (n + 1) (frame_types frame.old)) ≡ told result pc (frame_types frame.new) (frame_cells self.now.registers frame.new) }
     {
-        let result = self.result_at(k)?;
-        if arguments_fit(self.tables, stack, n as usize, self.params_at(k))
-            && discard(stack, n as usize + 1)
-            && push(stack, self.height, result)
-        {
-            Some(Leads::Next)
-        } else {
-            None
+        let t = self.result_at(k)?;
+        if !arguments_fit(self.tables, frame, n as usize, self.params_at(k)) {
+            return None;
         }
+        frame.discard(n as usize + 1);
+        frame.push(self.height, t)?;
+        Some(Leads::Next)
     }
 
     // The call of what the class `c` sees under the name `m`.
-    fn step_call(
-        &self,
-        pc: usize,
-        c: u8,
-        m: u8,
-        n: u8,
-        stack: &mut Stack<u16>,
-        registers: &[u16],
-    ) -> Option<Leads>
-        requires ready { Ready stack.old }
-        requires held { n < length (types_of stack.old) }
-        ensures sends { send_call (program self.now) (owned self.now) m pc (cells_in registers.now) (call_operands n (types_of stack.old) (Ty.Class c)) ≡ told result pc (types_of stack.new) (cells_in registers.now) }
-        ensures ready { Ready stack.new }
-        ensures same { stack.new.cells.ghost_name ≡ stack.old.cells.ghost_name }
+    fn step_call(&self, c: ClassNumber, m: Name, n: u8, frame: &mut TypeFrame) -> Option<Leads>
+        requires { n < length (frame_types frame.old) }
+        ensures { (pc : ℕ) → send_call (program self.now) (owned self.now) m pc (frame_cells self.now.registers frame.old) (call_operands n (frame_types frame.old) (Ty.Class c)) ≡ told result pc (frame_types frame.new) (frame_cells self.now.registers frame.new) }
     {
         let k = self.tables.sees(c, m)?;
-        self.step_method(pc, k, n, stack, registers)
+        self.step_method(k, n, frame)
     }
 
     // Invoke: on Null's type nothing follows; on a class it sees the method, and the arguments fit.
-    pub(crate) fn step_invoke(
-        &self,
-        pc: usize,
-        m: u8,
-        n: u8,
-        stack: &mut Stack<u16>,
-        registers: &[u16],
-    ) -> Option<Leads>
-        requires ready { Ready stack.old }
-        ensures sends { Steps self.now (Instr.Invoke m n) pc stack.old registers.now result stack.new registers.now }
-        ensures ready { Ready stack.new }
-        ensures same { stack.new.cells.ghost_name ≡ stack.old.cells.ghost_name }
+    pub(crate) fn step_invoke(&self, m: Name, n: u8, frame: &mut TypeFrame) -> Option<Leads>
+        ensures { (pc : ℕ) → Steps self.now (Instr.Invoke m n) pc frame.old result frame.new }
     {
-        match receiver(stack, n as usize)? {
-            Ty::Void => None,
-            Ty::Boolean => None,
-            Ty::Integer => None,
+        match receiver(frame, n as usize)? {
+            Ty::Void | Ty::Boolean | Ty::Integer => None,
             Ty::NullType => Some(Leads::Nowhere),
-            Ty::Class(c) => self.step_call(pc, c, m, n, stack, registers),
+            Ty::Class(c) => self.step_call(c, m, n, frame),
         }
     }
 }
 
 // The type under the `n` topmost.
-fn receiver(stack: &Stack<u16>, n: usize) -> Option<Ty>
-    requires { Small stack.now.cells.now }
-    ensures operands { operands_of n (types_of stack.now) ≡ maybe result None (λ t. Some (call_operands n (types_of stack.now) t)) }
-    ensures held { OnSome result (n < length (types_of stack.now)) }
+fn receiver(frame: &TypeFrame, n: usize) -> Option<Ty>
+    ensures operands { operands_of n (frame_types frame.now) ≡ maybe result None (λ t. Some (call_operands n (frame_types frame.now) t)) }
+    ensures held { OnSome result (n < length (frame_types frame.now)) }
 {
-    type_below(stack, n)
-}
-
-// Lets the `n` topmost types go.
-fn discard(stack: &mut Stack<u16>, n: usize) -> bool
-    requires { n ≤ length (types_of stack.old) }
-    ensures all { result ≡ true }
-    ensures left { types_of stack.new ≡ drop n (types_of stack.old) }
-    ensures cells { stack.new.cells.now ≡ stack.old.cells.now }
-    ensures same { stack.new.cells.ghost_name ≡ stack.old.cells.ghost_name }
-{
-    stack.discard(n).is_ok()
+    frame.below(n)
 }

@@ -1,18 +1,14 @@
 // What a handler's target gets.
-ghost use Rattle.std.specs.Prelude.{◌≡◌, ℕ, ◌+◌, ◌<◌, ◌≤◌, ◌∷◌, length};
+ghost use Rattle.std.specs.Prelude.{◌≡◌, ℕ, ◌<◌, ◌≤◌, ◌∷◌, length};
 ghost use Rattle.format.specs.Limits.{max_height};
 ghost use Rattle.jinja.specs.Handlers.{lowest};
-ghost use Rattle.type_rows.specs.Numbers.{width, Small, types_in};
+ghost use Rattle.type_rows.specs.Numbers.{width};
 ghost use Rattle.type_rows.specs.RowSteps.{row_types, row_cells, Reached};
 
-use crate::apply::write_row;
-use crate::row::{CELLS, REGISTERS};
-use crate::types::number_of;
-use format::limits::MAX_REGISTERS;
+use crate::frame::TypeFrame;
+use crate::row::CELLS;
 use jinja::program::ClassNumber;
 use jinja::ty::Ty;
-use stack::Stack;
-use walk::WIDTH;
 
 /// Writes the lowest `depth` types of a row with a class on top, and the row's registers.
 pub fn catch(row: &[u16], depth: usize, class: ClassNumber, out: &mut [u16])
@@ -24,22 +20,8 @@ pub fn catch(row: &[u16], depth: usize, class: ClassNumber, out: &mut [u16])
     ensures cells { (n : ℕ) → row_cells n out.new ≡ row_cells n row.now }
     ensures reached { Reached out.new }
 {
-    let mut cells = [0u16; CELLS];
-    cells.copy_from_slice(&row[1..REGISTERS]);
-    let mut registers = [0u16; MAX_REGISTERS];
-    registers.copy_from_slice(&row[REGISTERS..WIDTH]);
-    cover(&mut cells, depth, class);
-    write_row(out, depth as u16 + 1, &cells, &registers);
-}
-
-// Puts a class on the `depth` lowest types.
-fn cover(cells: &mut [u16], depth: usize, class: ClassNumber)
-    requires small { Small cells.old }
-    requires long { length cells.old ≡ max_height }
-    requires room { depth < max_height }
-    ensures types { types_in cells.new (depth + 1) ≡ Ty.Class class ∷ types_in cells.old depth }
-    ensures small { Small cells.new }
-{
-    let mut stack = Stack::over(cells, depth);
-    let _ = stack.push(number_of(Ty::Class(class)));
+    let mut frame = TypeFrame::of(row);
+    frame.cut(depth);
+    let _ = frame.push(CELLS, Ty::Class(class));
+    frame.write(out);
 }

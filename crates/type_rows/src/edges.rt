@@ -22,8 +22,7 @@ impl<'a> Method<'a> {
     pub(crate) fn edges(&self) -> usize
         ensures { result ≡ 2 + length (owned self.now).method.handlers }
     {
-        let handlers = self.tables.handlers_of(self.number);
-        2 + handlers.len()
+        2 + self.handlers().len()
     }
 
     // Writes what an edge of the instruction sends from a row that is reached.
@@ -49,12 +48,8 @@ impl<'a> Method<'a> {
         if e < 2 {
             return self.send_next(i, pc, e, row, out);
         }
-        let handlers = self.tables.handlers_of(self.number);
-        let j = e - 2;
-        if j >= handlers.len() {
-            return None;
-        }
-        self.send_to_handler(i, pc, handlers[j], row, out)
+        let handler = *self.handlers().get(e - 2)?;
+        self.send_to_handler(i, pc, handler, row, out)
     }
 
     // Writes what edge `e` of the instruction at `pc` sends from the row, and answers where to; `None` where it sends
@@ -68,16 +63,11 @@ impl<'a> Method<'a> {
         ensures shows { OnSome result (Shows (program self.now) (owned self.now) out.new) }
         ensures sends { MatchOption result (flow.carries (program self.now) (owned self.now) pc e (read_row (rows.registers (owned self.now)) row.now) ≡ nothing) (λ k. flow.carries (program self.now) (owned self.now) pc e (read_row (rows.registers (owned self.now)) row.now) ≡ sent k (read_row (rows.registers (owned self.now)) out.new)) }
     {
-        if row[0] == 0 {
+        if row[0] == 0 || row[0] as usize > REGISTERS {
             return None;
         }
-        if row[0] as usize > REGISTERS {
-            return None;
-        }
-        match self.tables.instr(self.number, pc) {
-            Some(i) => self.send_reached(i, pc, e, row, out),
-            None => None,
-        }
+        let i = self.instr(pc)?;
+        self.send_reached(i, pc, e, row, out)
     }
 }
 
@@ -85,8 +75,5 @@ impl<'a> Method<'a> {
 fn branches(i: Instr) -> bool
     ensures { MatchBool result ((z : ℤ) × (i ≡ Instr.IfFalse z)) ((z : ℤ) → i ≢ Instr.IfFalse z) }
 {
-    match i {
-        Instr::IfFalse(_) => true,
-        _ => false,
-    }
+    matches!(i, Instr::IfFalse(_))
 }

@@ -2,16 +2,19 @@
 ghost use Rattle.std.specs.Prelude.{◌≡◌, ◌≤◌, length, MatchBool, ◌≢◌, slice_index};
 ghost use Rattle.tables.specs.Views.{program_of};
 ghost use Rattle.type_rows.specs.Joining.{join_number, join_numbers, has_absent};
-ghost use Rattle.type_rows.specs.Numbers.{largest, Small, Shows, read_row};
+ghost use Rattle.jinja.specs.Classes.{maybe};
+ghost use Rattle.jinja.specs.Join.{join_cell};
+ghost use Rattle.jinja.specs.Rows.{usable, unusable};
+ghost use Rattle.type_rows.specs.Numbers.{largest, cell_of_number, Small, Shows, read_row};
 ghost use Rattle.jinja.specs.Rows as rows;
 ghost use Rattle.type_rows.specs.Merging.{merge};
 ghost use Rattle.type_rows.specs.RowSteps.{Reached};
 ghost use Rattle.type_rows.specs.Stepping.{program, owned};
 
 use crate::method::Method;
-use crate::registers::ABSENT;
-use crate::row::REGISTERS;
-use crate::types::{joined, number_of, type_of};
+use crate::row::{ABSENT, REGISTERS};
+use crate::types::{cell_number, cell_type, joined};
+use jinja::ty::Ty;
 use tables::tables::Tables;
 
 /// The first number of a row in which paths clash.
@@ -77,15 +80,19 @@ fn join_number(tables: &Tables, a: u16, b: u16) -> u16
     ensures small { result ≤ largest }
 {
     if a == b {
-        return a;
+        a
+    } else {
+        cell_number(joined_cells(tables, a, b))
     }
-    if a == ABSENT || b == ABSENT {
-        return ABSENT;
-    }
-    match joined(tables, type_of(a), type_of(b)) {
-        Some(t) => number_of(t),
-        None => ABSENT,
-    }
+}
+
+// The least type above those of two usable cells, if there is one.
+fn joined_cells(tables: &Tables, a: u16, b: u16) -> Option<Ty>
+    requires left { a ≤ largest }
+    requires right { b ≤ largest }
+    ensures { maybe result unusable usable ≡ join_cell (program_of tables.now) (cell_of_number a) (cell_of_number b) }
+{
+    joined(tables, cell_type(a)?, cell_type(b)?)
 }
 
 // Joins cells into cells, and says whether that changed one.
@@ -98,10 +105,10 @@ pub(crate) fn join_numbers(tables: &Tables, cells: &mut [u16], others: &[u16]) -
     ensures changed { MatchBool result (cells.new ≢ cells.old) (cells.new ≡ cells.old) }
 {
     let mut changed = false;
-    for k in 0..cells.len() {
-        let joined = join_number(tables, cells[k], others[k]);
-        if joined != cells[k] {
-            cells[k] = joined;
+    for (k, cell) in cells.iter_mut().enumerate() {
+        let joined = join_number(tables, *cell, others[k]);
+        if joined != *cell {
+            *cell = joined;
             changed = true;
         }
     }
@@ -112,10 +119,5 @@ pub(crate) fn join_numbers(tables: &Tables, cells: &mut [u16], others: &[u16]) -
 pub(crate) fn any_absent(cells: &[u16]) -> bool
     ensures { result ≡ has_absent cells.now }
 {
-    for k in 0..cells.len() {
-        if cells[k] == ABSENT {
-            return true;
-        }
-    }
-    false
+    cells.contains(&ABSENT)
 }

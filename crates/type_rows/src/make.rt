@@ -18,10 +18,8 @@ impl<'a> Method<'a> {
         ensures { MatchOption result (method_at (set_program set.now) number ≡ None) (MethodOf (set_program set.now) number) }
     {
         let tables = set.tables();
-        match tables.method(number) {
-            Some(method) => Some(of_record(tables, number, method)),
-            None => None,
-        }
+        let method = tables.method(number)?;
+        Some(of_record(tables, number, method))
     }
 }
 

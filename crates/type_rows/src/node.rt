@@ -21,7 +21,7 @@ impl<'a> Method<'a> {
         if row[0] as usize > REGISTERS {
             return true;
         }
-        match self.tables.instr(self.number, pc) {
+        match self.instr(pc) {
             Some(i) => self.refuses_reached(i, pc, row),
             None => true,
         }

@@ -1,5 +1,6 @@
-// A method as a flow: how many nodes it has, and the row of a node that nothing has reached.
+// A method as a flow: its nodes, their handlers, and the row of a node that nothing has reached.
 ghost use Rattle.std.specs.Prelude.{◌≡◌, length};
+ghost use Rattle.std.specs.List.{slice_get};
 ghost use Rattle.jinja.specs.Rows as rows;
 ghost use Rattle.type_rows.specs.Merging.{merged};
 ghost use Rattle.type_rows.specs.Numbers.{width, Shows, read_row};
@@ -7,6 +8,8 @@ ghost use Rattle.type_rows.specs.Stepping.{program, owned};
 
 use crate::method::Method;
 use crate::row::write_unreached;
+use jinja::instr::Instr;
+use jinja::program::Handler;
 
 impl<'a> Method<'a> {
     // How many instructions it has.
@@ -15,6 +18,20 @@ impl<'a> Method<'a> {
     {
         let code = self.tables.code_of(self.number);
         code.len()
+    }
+
+    // The instruction at `pc`.
+    pub(crate) fn instr(&self, pc: usize) -> Option<Instr>
+        ensures { result ≡ slice_get (owned self.now).method.code pc }
+    {
+        self.tables.instr(self.number, pc)
+    }
+
+    // Its exception table.
+    pub(crate) fn handlers(&self) -> &[Handler]
+        ensures { result.now ≡ (owned self.now).method.handlers }
+    {
+        self.tables.handlers_of(self.number)
     }
 
     // Writes the row of an instruction that nothing has reached.

@@ -7,10 +7,5 @@ pub fn place_from(pc: usize, z: i16) -> Option<usize>
     requires { pc ≤ 256 }
     ensures { result ≡ jump pc z }
 {
-    let place = pc as i32 + z as i32;
-    if place < 0 {
-        None
-    } else {
-        Some(place as usize)
-    }
+    usize::try_from(pc as i32 + i32::from(z)).ok()
 }

@@ -7,7 +7,6 @@ ghost use Rattle.type_rows.specs.RowSteps.{row_types, row_cells, Reached};
 ghost use Rattle.type_rows.specs.Stepping.{program, owned};
 
 use crate::ends::stays_inside;
-use crate::handlers::all_pass;
 use crate::method::Method;
 use jinja::instr::Instr;
 use walk::WIDTH;
@@ -24,10 +23,7 @@ impl<'a> Method<'a> {
         let Some(to) = self.apply(i, pc, row, &mut out) else {
             return true;
         };
-        let end = self.tables.code_of(self.number).len();
-        let handlers = self.tables.handlers_of(self.number);
         let height = row[0] as usize - 1;
-        !stays_inside(to, pc, end)
-            || !all_pass(self.tables, i, pc, height, self.height, end, handlers)
+        !stays_inside(to, pc, self.count()) || !self.all_pass(i, pc, height)
     }
 }

@@ -1,10 +1,14 @@
 // A row of numbers in a workspace: its height, its stack cells and its registers.
-ghost use Rattle.std.specs.Prelude.{◌≡◌, ◌-◌, ◌≤◌, ◌++◌, length, take, replicate};
+ghost use Rattle.std.specs.Prelude.{◌≡◌, ◌+◌, ◌-◌, ◌≤◌, ◌∷◌, ◌++◌, length, take, replicate};
+ghost use Rattle.format.specs.Limits.{max_height, max_registers};
 ghost use Rattle.type_rows.specs.Numbers.{width, absent, row_numbers};
 ghost use Rattle.jinja.specs.Rows.{unreached};
 
-use crate::registers::ABSENT;
 use format::limits::MAX_HEIGHT;
+use walk::WIDTH;
+
+/// The number of what is absent or unusable.
+pub const ABSENT: u16 = 255;
 
 /// How many stack cells a row has, behind its first number.
 pub const CELLS: usize = MAX_HEIGHT as usize;
@@ -35,4 +39,17 @@ pub fn write_unreached(row: &mut [u16])
 {
     clear(row);
     row[0] = 0;
+}
+
+/// Writes a row of this height from its stack cells and registers.
+pub(crate) fn write_row(out: &mut [u16], height: u16, cells: &[u16], registers: &[u16])
+    requires whole { length out.old ≡ width }
+    requires low { height ≤ max_height }
+    requires cells { length cells.now ≡ max_height }
+    requires registers { length registers.now ≡ max_registers }
+    ensures { out.new ≡ (height + 1) ∷ (cells.now ++ registers.now) }
+{
+    out[0] = height + 1;
+    out[1..REGISTERS].copy_from_slice(cells);
+    out[REGISTERS..WIDTH].copy_from_slice(registers);
 }

@@ -6,10 +6,5 @@ pub fn same_numbers(left: &[u16], right: &[u16]) -> bool
     requires { length left.now ≡ length right.now }
     ensures { MatchBool result (left.now ≡ right.now) (left.now ≢ right.now) }
 {
-    for k in 0..left.len() {
-        if left[k] != right[k] {
-            return false;
-        }
-    }
-    true
+    left == right
 }

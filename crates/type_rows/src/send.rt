@@ -16,7 +16,6 @@ ghost use Rattle.type_rows.specs.Stepping.{program, owned};
 ghost use Rattle.type_rows.specs.Taking.{Suits};
 
 use crate::catch::catch;
-use crate::handlers::is_relevant;
 use crate::leads::Leads;
 use crate::method::Method;
 use jinja::instr::Instr;
@@ -37,12 +36,10 @@ impl<'a> Method<'a> {
         requires told { Told (row_types row.now) }
         requires whole { length out.old ≡ width }
         ensures sends { maybe (transfer (program self.now) (owned self.now) i pc (row_types row.now) (row_cells self.now.registers row.now)) nothing (λ es. sent_at es e) ≡ sent_to result (row_types out.new) (row_cells self.now.registers out.new) }
-        ensures reached { Reached out.new }
+        ensures reached { OnSome result (Reached out.new) }
     {
-        match self.apply(i, pc, row, out) {
-            Some(to) => place_of(to, pc, e),
-            None => None,
-        }
+        let to = self.apply(i, pc, row, out)?;
+        place_of(to, pc, e)
     }
 
     // Writes what the target of a handler gets, and answers where it stands; `None` where the handler is not relevant.
@@ -60,7 +57,7 @@ impl<'a> Method<'a> {
         ensures sends { to_handler (program self.now) handler i pc (row_types row.now) (row_cells self.now.registers row.now) ≡ sent_to result (row_types out.new) (row_cells self.now.registers out.new) }
         ensures reached { OnSome result (Reached out.new) }
     {
-        if !is_relevant(self.tables, i, pc, handler) {
+        if !self.is_relevant(i, pc, handler) {
             return None;
         }
         catch(row, handler.depth as usize, handler.class, out);
@@ -75,8 +72,8 @@ fn place_of(to: Leads, pc: usize, e: usize) -> Option<usize>
 {
     match to {
         Leads::Nowhere => None,
-        Leads::Next => { if e == 0 { Some(pc + 1) } else { None } }
-        Leads::To(q) => { if e == 0 { Some(q) } else { None } }
+        Leads::Next => (e == 0).then_some(pc + 1),
+        Leads::To(q) => (e == 0).then_some(q),
         Leads::Either(q) => match e {
             0 => Some(pc + 1),
             1 => Some(q),

@@ -6,15 +6,11 @@ ghost use Rattle.type_rows.specs.Merging.{merged};
 ghost use Rattle.type_rows.specs.Numbers.{width, Shows, read_row, row_numbers};
 ghost use Rattle.type_rows.specs.Stepping.{program, owned};
 
-use crate::apply::write_row;
 use crate::method::Method;
-use crate::registers::ABSENT;
-use crate::row::CELLS;
-use crate::types::number_of;
+use crate::row::{ABSENT, CELLS, write_row};
 use format::limits::MAX_REGISTERS;
-use jinja::program::ClassNumber;
+use jinja::program::{ClassNumber, OBJECT};
 use jinja::ty::Ty;
-use tables::classes::OBJECT;
 
 impl<'a> Method<'a> {
     // Writes the row of the first instruction as the method begins: no operands, this object, the parameters, and
@@ -34,7 +30,7 @@ impl<'a> Method<'a> {
     {
         let cells = [ABSENT; CELLS];
         let mut registers = [ABSENT; MAX_REGISTERS];
-        registers[0] = number_of(Ty::Class(self.owner()));
+        registers[0] = u16::from(Ty::Class(self.owner()));
         write_types(&mut registers[1..MAX_REGISTERS], self.params());
         write_row(out, 0, &cells, &registers);
     }
@@ -43,10 +39,7 @@ impl<'a> Method<'a> {
     fn owner(&self) -> ClassNumber
         ensures { result ≡ (owned self.now).owner }
     {
-        match self.tables.owner(self.number) {
-            Some(c) => c,
-            None => OBJECT,
-        }
+        self.tables.owner(self.number).unwrap_or(OBJECT)
     }
 
     // The types of its parameters.
@@ -62,7 +55,7 @@ fn write_types(cells: &mut [u16], types: &[Ty])
     requires { length types.now ≤ length cells.old }
     ensures { cells.new ≡ map type_number types.now ++ drop (length types.now) cells.old }
 {
-    for k in 0..types.len() {
-        cells[k] = number_of(types[k]);
+    for (k, t) in types.iter().enumerate() {
+        cells[k] = u16::from(*t);
     }
 }

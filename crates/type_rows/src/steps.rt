@@ -1,227 +1,112 @@
 // Instructions over registers, the stack and places: what they need, and what their successors get.
-ghost use Rattle.std.specs.Prelude.{◌≡◌, ◌≤◌};
-ghost use Rattle.type_rows.specs.Numbers.{Small};
+ghost use Rattle.std.specs.Prelude.{ℕ, ◌≤◌};
 ghost use Rattle.type_rows.specs.Registers.{Told};
-ghost use Rattle.type_rows.specs.Stepping.{types_of, Ready, Steps};
+ghost use Rattle.type_rows.specs.Stepping.{Steps};
+ghost use Rattle.type_rows.specs.TypeFrames.{frame_types};
 
+use crate::frame::TypeFrame;
 use crate::leads::Leads;
 use crate::method::Method;
-use crate::operands::{pop, push};
 use crate::places::place_from;
-use crate::registers::{load, store};
-use crate::types::{is_reference, is_same, lies_below, literal_type};
+use crate::types::lies_below;
 use jinja::instr::{Instr, Literal};
 use jinja::ty::Ty;
-use stack::Stack;
 
 impl<'a> Method<'a> {
     // Load: the register exists and is usable.
-    pub(crate) fn step_load(
-        &self,
-        pc: usize,
-        n: u8,
-        stack: &mut Stack<u16>,
-        registers: &[u16],
-    ) -> Option<Leads>
-        requires ready { Ready stack.old }
-        requires small { Small registers.now }
-        ensures sends { Steps self.now (Instr.Load n) pc stack.old registers.now result stack.new registers.now }
-        ensures ready { Ready stack.new }
-        ensures same { stack.new.cells.ghost_name ≡ stack.old.cells.ghost_name }
+    pub(crate) fn step_load(&self, n: u8, frame: &mut TypeFrame) -> Option<Leads>
+        ensures { (pc : ℕ) → Steps self.now (Instr.Load n) pc frame.old result frame.new }
     {
-        let t = load(registers, n as usize)?;
-        if push(stack, self.height, t) {
-            Some(Leads::Next)
-        } else {
-            None
-        }
+        let t = frame.load(self.registers, n as usize)?;
+        frame.push(self.height, t)?;
+        Some(Leads::Next)
     }
 
     // Store: there is a cell, and the register exists.
-    pub(crate) fn step_store(
-        &self,
-        pc: usize,
-        n: u8,
-        stack: &mut Stack<u16>,
-        registers: &mut [u16],
-    ) -> Option<Leads>
-        requires ready { Ready stack.old }
-        requires told { Told (types_of stack.old) }
-        requires small { Small registers.old }
-        ensures sends { Steps self.now (Instr.Store n) pc stack.old registers.old result stack.new registers.new }
-        ensures ready { Ready stack.new }
-        ensures same { stack.new.cells.ghost_name ≡ stack.old.cells.ghost_name }
-        ensures small { Small registers.new }
+    pub(crate) fn step_store(&self, n: u8, frame: &mut TypeFrame) -> Option<Leads>
+        requires { Told (frame_types frame.old) }
+        ensures { (pc : ℕ) → Steps self.now (Instr.Store n) pc frame.old result frame.new }
     {
-        let t = pop(stack)?;
-        if store(registers, n as usize, t) {
-            Some(Leads::Next)
-        } else {
-            None
-        }
+        let t = frame.pop()?;
+        frame.store(self.registers, n as usize, t)?;
+        Some(Leads::Next)
     }
 
     // Push: there is room.
-    pub(crate) fn step_push(
-        &self,
-        pc: usize,
-        v: Literal,
-        stack: &mut Stack<u16>,
-        registers: &[u16],
-    ) -> Option<Leads>
-        requires ready { Ready stack.old }
-        ensures sends { Steps self.now (Instr.Push v) pc stack.old registers.now result stack.new registers.now }
-        ensures ready { Ready stack.new }
-        ensures same { stack.new.cells.ghost_name ≡ stack.old.cells.ghost_name }
+    pub(crate) fn step_push(&self, v: Literal, frame: &mut TypeFrame) -> Option<Leads>
+        ensures { (pc : ℕ) → Steps self.now (Instr.Push v) pc frame.old result frame.new }
     {
-        if push(stack, self.height, literal_type(v)) {
-            Some(Leads::Next)
-        } else {
-            None
-        }
+        frame.push(self.height, Ty::from(v))?;
+        Some(Leads::Next)
     }
 
     // Pop: there is a cell.
-    pub(crate) fn step_pop(
-        &self,
-        pc: usize,
-        stack: &mut Stack<u16>,
-        registers: &[u16],
-    ) -> Option<Leads>
-        requires ready { Ready stack.old }
-        ensures sends { Steps self.now Instr.Pop pc stack.old registers.now result stack.new registers.now }
-        ensures ready { Ready stack.new }
-        ensures same { stack.new.cells.ghost_name ≡ stack.old.cells.ghost_name }
+    pub(crate) fn step_pop(&self, frame: &mut TypeFrame) -> Option<Leads>
+        ensures { (pc : ℕ) → Steps self.now Instr.Pop pc frame.old result frame.new }
     {
-        match pop(stack) {
-            Some(_) => Some(Leads::Next),
-            None => None,
-        }
+        frame.pop()?;
+        Some(Leads::Next)
     }
 
     // Throw: a reference.
-    pub(crate) fn step_throw(
-        &self,
-        pc: usize,
-        stack: &mut Stack<u16>,
-        registers: &[u16],
-    ) -> Option<Leads>
-        requires ready { Ready stack.old }
-        ensures sends { Steps self.now Instr.Throw pc stack.old registers.now result stack.new registers.now }
-        ensures ready { Ready stack.new }
-        ensures same { stack.new.cells.ghost_name ≡ stack.old.cells.ghost_name }
+    pub(crate) fn step_throw(&self, frame: &mut TypeFrame) -> Option<Leads>
+        ensures { (pc : ℕ) → Steps self.now Instr.Throw pc frame.old result frame.new }
     {
-        let t = pop(stack)?;
-        if is_reference(t) {
-            Some(Leads::Nowhere)
-        } else {
-            None
-        }
+        let t = frame.pop()?;
+        t.is_reference().then_some(Leads::Nowhere)
     }
 
     // Return: the type lies below the method's result.
-    pub(crate) fn step_return(
-        &self,
-        pc: usize,
-        stack: &mut Stack<u16>,
-        registers: &[u16],
-    ) -> Option<Leads>
-        requires ready { Ready stack.old }
-        ensures sends { Steps self.now Instr.Return pc stack.old registers.now result stack.new registers.now }
-        ensures ready { Ready stack.new }
-        ensures same { stack.new.cells.ghost_name ≡ stack.old.cells.ghost_name }
+    pub(crate) fn step_return(&self, frame: &mut TypeFrame) -> Option<Leads>
+        ensures { (pc : ℕ) → Steps self.now Instr.Return pc frame.old result frame.new }
     {
-        let t = pop(stack)?;
-        if lies_below(self.tables, t, self.result) {
-            Some(Leads::Nowhere)
-        } else {
-            None
-        }
+        let t = frame.pop()?;
+        lies_below(self.tables, t, self.result).then_some(Leads::Nowhere)
     }
 
     // IAdd: two integers.
-    pub(crate) fn step_add(
-        &self,
-        pc: usize,
-        stack: &mut Stack<u16>,
-        registers: &[u16],
-    ) -> Option<Leads>
-        requires ready { Ready stack.old }
-        ensures sends { Steps self.now Instr.IAdd pc stack.old registers.now result stack.new registers.now }
-        ensures ready { Ready stack.new }
-        ensures same { stack.new.cells.ghost_name ≡ stack.old.cells.ghost_name }
+    pub(crate) fn step_add(&self, frame: &mut TypeFrame) -> Option<Leads>
+        ensures { (pc : ℕ) → Steps self.now Instr.IAdd pc frame.old result frame.new }
     {
-        let t = pop(stack)?;
-        let u = pop(stack)?;
-        if is_same(Ty::Integer, t)
-            && is_same(Ty::Integer, u)
-            && push(stack, self.height, Ty::Integer)
-        {
-            Some(Leads::Next)
-        } else {
-            None
+        let t = frame.pop()?;
+        let u = frame.pop()?;
+        if t != Ty::Integer || u != Ty::Integer {
+            return None;
         }
+        frame.push(self.height, Ty::Integer)?;
+        Some(Leads::Next)
     }
 
     // CmpEq: equal types, or two references.
-    pub(crate) fn step_equal(
-        &self,
-        pc: usize,
-        stack: &mut Stack<u16>,
-        registers: &[u16],
-    ) -> Option<Leads>
-        requires ready { Ready stack.old }
-        ensures sends { Steps self.now Instr.CmpEq pc stack.old registers.now result stack.new registers.now }
-        ensures ready { Ready stack.new }
-        ensures same { stack.new.cells.ghost_name ≡ stack.old.cells.ghost_name }
+    pub(crate) fn step_equal(&self, frame: &mut TypeFrame) -> Option<Leads>
+        ensures { (pc : ℕ) → Steps self.now Instr.CmpEq pc frame.old result frame.new }
     {
-        let t = pop(stack)?;
-        let u = pop(stack)?;
-        if (is_same(t, u) || is_reference(t) && is_reference(u))
-            && push(stack, self.height, Ty::Boolean)
-        {
-            Some(Leads::Next)
-        } else {
-            None
+        let t = frame.pop()?;
+        let u = frame.pop()?;
+        if t != u && !(t.is_reference() && u.is_reference()) {
+            return None;
         }
+        frame.push(self.height, Ty::Boolean)?;
+        Some(Leads::Next)
     }
 
     // IfFalse: a Boolean, and a place to go to.
-    pub(crate) fn step_if_false(
-        &self,
-        pc: usize,
-        z: i16,
-        stack: &mut Stack<u16>,
-        registers: &[u16],
-    ) -> Option<Leads>
-        requires place { pc ≤ 256 }
-        requires ready { Ready stack.old }
-        ensures sends { Steps self.now (Instr.IfFalse z) pc stack.old registers.now result stack.new registers.now }
-        ensures ready { Ready stack.new }
-        ensures same { stack.new.cells.ghost_name ≡ stack.old.cells.ghost_name }
+    pub(crate) fn step_if_false(&self, pc: usize, z: i16, frame: &mut TypeFrame) -> Option<Leads>
+        requires { pc ≤ 256 }
+        ensures { Steps self.now (Instr.IfFalse z) pc frame.old result frame.new }
     {
-        let t = pop(stack)?;
-        if is_same(Ty::Boolean, t) {
-            let q = place_from(pc, z)?;
-            Some(Leads::Either(q))
-        } else {
-            None
+        let t = frame.pop()?;
+        if t != Ty::Boolean {
+            return None;
         }
+        let q = place_from(pc, z)?;
+        Some(Leads::Either(q))
     }
 
     // Goto: a place to go to.
-    pub(crate) fn step_goto(
-        &self,
-        pc: usize,
-        z: i16,
-        stack: &mut Stack<u16>,
-        registers: &[u16],
-    ) -> Option<Leads>
-        requires place { pc ≤ 256 }
-        requires ready { Ready stack.old }
-        ensures sends { Steps self.now (Instr.Goto z) pc stack.old registers.now result stack.new registers.now }
-        ensures ready { Ready stack.new }
-        ensures same { stack.new.cells.ghost_name ≡ stack.old.cells.ghost_name }
+    pub(crate) fn step_goto(&self, pc: usize, z: i16, frame: &mut TypeFrame) -> Option<Leads>
+        requires { pc ≤ 256 }
+        ensures { Steps self.now (Instr.Goto z) pc frame.old result frame.new }
     {
         let q = place_from(pc, z)?;
         Some(Leads::To(q))

@@ -10,7 +10,7 @@ pub loop-k-init : goal.loop-k-init
 loop-k-init c = refl
 
 pub loop-k-preserved : goal.loop-k-preserved
-loop-k-preserved c = type_written c.args.types.now c.args.cells.now c.loop-k.cells c.loop-k.k c.number_of.result _ c.loop-k-test.true c.requires c.loop-k.invariant c.number_of.ensures.number
+loop-k-preserved c = type_written c.args.types.now c.args.cells.now c.loop-k.cells c.loop-k.k c.from.result _ c.loop-k-test.true c.requires c.loop-k.invariant c.from.ensures
 
 pub returns : goal.returns
 returns c =

@@ -1,15 +1,12 @@
 -- By the first number: nothing has reached the instruction, paths clash, or it is reached.
-use Rattle.std.proofs.Common.{◌≡◌, ◌<◌, ◌≤◌, List, length, get_or, Some, None, sym, ap, ◌∙◌, subst, arith}
+use Rattle.std.proofs.Common.{◌≡◌, ◌<◌, ◌≤◌, length, get_or, Some, None, sym, ◌∙◌, subst, arith}
 use Rattle.std.specs.List.{slice_get}
-use Rattle.jinja.specs.declared.instr.Instr.{Instr}
 use Rattle.jinja.specs.Classes.{table}
 use Rattle.jinja.specs.Rows as rows
-use Rattle.tables.proofs.Owners.{methods_numbered}
 use Rattle.tables.proofs.Programs.{length_program}
 use Rattle.type_rows.specs.Merging.{InUse}
 use Rattle.type_rows.specs.RowSteps.{row_types, row_cells}
 use Rattle.type_rows.specs.Stepping.{program, owned}
-use Rattle.type_rows.proofs.Refused.{code_unowned}
 use Rattle.type_rows.proofs.Reading.{read_reached, row_in_use_told, refuses_unreached, refuses_clash, refuses_reached}
 use Rattle.type_rows.proofs.method.Method.refuses.Goals as goal
 
@@ -41,8 +38,7 @@ returns-in-Some c =
     let m = c.args.self.now in
     let row = c.args.row.now in
     let pc = c.args.pc in
-    let code = code_unowned _ _ (methods_numbered m.tables.now m.number m.whole) in
-    let at : slice_get (owned m).method.code pc ≡ Some c.in-Some.i = sym (ap (λ (l : List Instr). slice_get l pc) code) ∙ sym c.instr.ensures ∙ c.in-Some.is in
+    let at : slice_get (owned m).method.code pc ≡ Some c.in-Some.i = sym c.instr.ensures ∙ c.in-Some.is in
     c.refuses_reached.ensures
     ∙ sym (refuses_reached (program m) (owned m) pc (rows.registers (owned m)) row (Some c.in-Some.i) m.registers at m.wide (omega (arith, c.if-row-eq0.false)) (omega (arith, c.if-row-gt-REGISTERS.false)))
 
@@ -51,6 +47,5 @@ returns-in-None c =
     let m = c.args.self.now in
     let row = c.args.row.now in
     let pc = c.args.pc in
-    let code = code_unowned _ _ (methods_numbered m.tables.now m.number m.whole) in
-    let at : slice_get (owned m).method.code pc ≡ None = sym (ap (λ (l : List Instr). slice_get l pc) code) ∙ sym c.instr.ensures ∙ c.in-None.is in
+    let at : slice_get (owned m).method.code pc ≡ None = sym c.instr.ensures ∙ c.in-None.is in
     sym (refuses_reached (program m) (owned m) pc (rows.registers (owned m)) row None m.registers at m.wide (omega (arith, c.if-row-eq0.false)) (omega (arith, c.if-row-gt-REGISTERS.false)))

@@ -14,4 +14,4 @@ returns c =
     let narrow : rows.registers (owned m) ≤ 16 = omega (arith, m.narrow, m.wide) in
     let written = ap (λ (l : List Ty). map type_number l ++ drop (length l) (replicate 15 absent)) c.params.ensures in
     c.write_row.ensures
-    ∙ first_written (owned m) narrow c.number_of.result c.write_types.new.cells (c.number_of.ensures.number ∙ ap (λ (a : ℕ). 4 + a) c.owner.ensures) (c.write_types.ensures ∙ written)
+    ∙ first_written (owned m) narrow c.from.result c.write_types.new.cells (c.from.ensures ∙ ap (λ (a : ℕ). 4 + a) c.owner.ensures) (c.write_types.ensures ∙ written)
