@@ -2,7 +2,7 @@
 ghost use Rattle.type_rows.specs.Frameworks.{method_framework};
 
 use crate::method::Method;
-use walk::Analysis;
+use walk::{Analysis, WIDTH};
 
 impl<'a> Analysis for Method<'a> {
     ghost framework = { method_framework };
@@ -11,11 +11,11 @@ impl<'a> Analysis for Method<'a> {
         self.count()
     }
 
-    fn bottom(&self, out: &mut [u16]) {
+    fn bottom(&self, out: &mut [u16; WIDTH]) {
         self.bottom(out);
     }
 
-    fn start(&self, out: &mut [u16]) {
+    fn start(&self, out: &mut [u16; WIDTH]) {
         self.start(out);
     }
 
@@ -31,7 +31,7 @@ impl<'a> Analysis for Method<'a> {
         self.edges()
     }
 
-    fn send(&self, i: usize, e: usize, row: &[u16], out: &mut [u16]) -> Option<usize> {
+    fn send(&self, i: usize, e: usize, row: &[u16], out: &mut [u16; WIDTH]) -> Option<usize> {
         self.send(i, e, row, out)
     }
 }

@@ -53,6 +53,10 @@ module _ (m : Framework) (xs : List ℕ) (k : ℕ) (node : k < nodes m) (room : 
           behind = row_rest xs k r (omega arith) long (nodes m) node room;
         }
 
+    -- what a part of the workspace was joined with is joined into the row of node k
+    pub row_joined : (x : m.Row) → m.shows r → m.read r ≡ m.join (m.read (take ((k * width + width) - k * width) (drop (k * width) xs))) x → Written m k (m.join (table m xs k) x) xs (written xs k r)
+    row_joined x shows means = row_written (m.join (table m xs k) x) shows (means ∙ ap (λ (l : List ℕ). m.join (m.read l) x) (part_row k xs))
+
     -- whether the part changed is whether the row of node k did
     pub row_changed : (b : Bool) → MatchBool b (m.read r ≡ m.read (take ((k * width + width) - k * width) (drop (k * width) xs)) → ⊥) (m.read r ≡ m.read (take ((k * width + width) - k * width) (drop (k * width) xs)))
         → MatchBool b (table m (written xs k r) k ≡ table m xs k → ⊥) (table m (written xs k r) k ≡ table m xs k)

@@ -1,8 +1,9 @@
 -- What a walk keeps true from node to node, and how much it has left to do. Assumes nothing.
-use Rattle.std.specs.Prelude.{◌≡◌, ℕ, zero, suc, ◌+◌, ◌*◌, ◌<◌, ◌≤◌, Bool, true, false, ◌⊎◌, ◌≢◌}
+use Rattle.std.specs.Prelude.{◌≡◌, ℕ, zero, suc, ◌+◌, ◌*◌, ◌<◌, ◌≤◌, Bool, true, false, List, ◌⊎◌, ◌≢◌}
 use Rattle.walk.specs.Lattice.{Le}
 use Rattle.walk.specs.Framework.{Framework, nodes}
 use Rattle.walk.specs.Solution.{Table, Lands, Solution}
+use Rattle.walk.specs.Rows.{table, Shown}
 
 -- a set of nodes
 abbrev pub Nodes : Type 0
@@ -53,6 +54,13 @@ AllSettled m d T = (j : ℕ) → j < nodes m → d j ≡ false → SettledAt m T
 -- only nodes are marked
 abbrev pub Inside : Framework → Nodes → Type 0
 Inside m d = (j : ℕ) → d j ≡ true → j < nodes m
+
+-- how a walk stands: each node's numbers show a row, the rows are those between the start and every solution, and only
+-- nodes are marked
+pub record Underway (m : Framework) (xs : List ℕ) (d : Nodes) : Type 0 where
+  pub shown : Shown m xs
+  pub held : Held m (table m xs)
+  pub inside : Inside m d
 
 -- what the walk keeps while it takes the edges of node i, those below e
 pub record Midway (m : Framework) (i e : ℕ) (T₀ : Table m) (d₀ : Nodes) (T : Table m) (d : Nodes) : Type 0 where

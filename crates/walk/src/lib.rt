@@ -7,14 +7,12 @@ ghost use Rattle.walk.specs.Rows.{rest};
 
 mod analysis;
 mod marks;
-mod rows;
 mod unsolved;
 mod walking;
 
 pub use analysis::Analysis;
-use marks::Marks;
 pub use unsolved::Unsolved;
-use walking::{begin, settle};
+use walking::Walk;
 
 /// How many numbers a row has.
 pub const WIDTH: usize = 33;
@@ -38,9 +36,5 @@ pub fn walk<A: Analysis>(a: &A, workspace: &mut [u16]) -> Result<(), Unsolved>
     if n == 0 {
         return Ok(());
     }
-    begin(a, workspace);
-    let mut marks = Marks::none();
-    marks.set(0);
-    let mut out = [0u16; WIDTH];
-    settle(a, workspace, &mut out, &mut marks)
+    Walk::begin(a, workspace).settle()
 }

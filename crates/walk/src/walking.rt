@@ -1,124 +1,163 @@
 // The walk: from the rows at the beginning, node by node and edge by edge, until no node is marked.
-ghost use Rattle.std.specs.Prelude.{◌≡◌, ◌+◌, ◌<◌, false, MatchResult};
+ghost use Rattle.std.specs.Prelude.{◌≡◌, ◌+◌, ◌<◌, false, MatchOption, MatchResult, OnSome};
 ghost use Rattle.walk.specs.Framework.{nodes};
+ghost use Rattle.walk.specs.Flow.{nothing, sent};
 ghost use Rattle.walk.specs.Solution.{Least, Unsolvable};
-ghost use Rattle.walk.specs.Rows.{OneRow, Room, table, rest, Shown};
+ghost use Rattle.walk.specs.Rows.{Room, table, rest, Shown, Written};
 ghost use Rattle.walk.specs.Marks.{marked};
-ghost use Rattle.walk.specs.Walking.{Begun, Raised, Held, Settled, AllSettled, Inside, Midway, NodeDone};
+ghost use Rattle.walk.specs.Walking.{Underway, Raised, Settled, AllSettled, Midway, NodeDone};
 
+use crate::WIDTH;
 use crate::analysis::Analysis;
 use crate::marks::Marks;
-use crate::rows;
 use crate::unsolved::Unsolved;
 
-/// Writes the rows at the beginning: node 0 has the start, and nothing has reached the others.
-pub fn begin<A: Analysis>(a: &A, workspace: &mut [u16])
-    requires node { 0 < nodes (A.Analysis.framework a.now) }
-    requires room { Room (A.Analysis.framework a.now) workspace.old }
-    ensures shown { Shown (A.Analysis.framework a.now) workspace.new }
-    ensures begun { Begun (A.Analysis.framework a.now) (table (A.Analysis.framework a.now) workspace.new) }
-    ensures behind { rest (A.Analysis.framework a.now) workspace.new ≡ rest (A.Analysis.framework a.now) workspace.old }
-{
-    let n = a.count();
-    for i in 0..n {
-        rows::write_bottom(a, workspace, i);
-    }
-    rows::write_start(a, workspace);
+/// A walk over the nodes of an analysis: their rows in a workspace, and the nodes that are still to be looked at.
+#[derive(Drop)]
+pub struct Walk<'a, A: Analysis> {
+    analysis: &'a A,
+    workspace: &'a mut [u16],
+    marks: Marks,
+    ghost room: { Room (A.Analysis.framework analysis.now) workspace.now },
 }
 
-/// Looks at marked nodes until none is left, or until one of them refuses its row.
-pub fn settle<A: Analysis>(
-    a: &A,
-    workspace: &mut [u16],
-    out: &mut [u16],
-    marks: &mut Marks,
-) -> Result<(), Unsolved>
-    requires room { Room (A.Analysis.framework a.now) workspace.old }
-    requires out { OneRow out.old }
-    requires shown { Shown (A.Analysis.framework a.now) workspace.old }
-    requires held { Held (A.Analysis.framework a.now) (table (A.Analysis.framework a.now) workspace.old) }
-    requires settled { AllSettled (A.Analysis.framework a.now) (marked marks.old.words) (table (A.Analysis.framework a.now) workspace.old) }
-    requires inside { Inside (A.Analysis.framework a.now) (marked marks.old.words) }
-    ensures shown { Shown (A.Analysis.framework a.now) workspace.new }
-    ensures answer { MatchResult result (λ _. Least (A.Analysis.framework a.now) (table (A.Analysis.framework a.now) workspace.new)) (λ e. (e ≡ Unsolved.Refused) × Unsolvable (A.Analysis.framework a.now)) }
-    ensures behind { rest (A.Analysis.framework a.now) workspace.new ≡ rest (A.Analysis.framework a.now) workspace.old }
-{
-    while let Some(i) = marks.first() {
-        if rows::refuses(a, workspace, i) {
-            return Err(Unsolved::Refused);
+impl<'a, A: Analysis> Walk<'a, A> {
+    /// Writes the rows at the beginning: node 0 has the start and is marked, and nothing has reached the others.
+    pub fn begin(analysis: &'a A, workspace: &'a mut [u16]) -> Walk<'a, A>
+        requires node { 0 < nodes (A.Analysis.framework analysis.now) }
+        requires room { Room (A.Analysis.framework analysis.now) workspace.old }
+        ensures underway { Underway (A.Analysis.framework analysis.now) result.workspace.now (marked result.marks.words) }
+        ensures settled { AllSettled (A.Analysis.framework analysis.now) (marked result.marks.words) (table (A.Analysis.framework analysis.now) result.workspace.now) }
+        ensures behind { rest (A.Analysis.framework analysis.now) result.workspace.now ≡ rest (A.Analysis.framework analysis.now) workspace.old }
+        ensures analysis { result.analysis ≡ analysis.entry }
+        ensures same { result.workspace.ghost_name ≡ workspace.entry.ghost_name }
+    {
+        let mut walk = Walk {
+            analysis,
+            workspace,
+            marks: Marks::none(),
+        };
+        let mut row = [0; WIDTH];
+        analysis.bottom(&mut row);
+        for i in 0..analysis.count() {
+            walk.write(i, &row);
         }
-        marks.clear(i);
-        take_edges(a, workspace, out, marks, i);
+        analysis.start(&mut row);
+        walk.write(0, &row);
+        walk.marks.set(0);
+        walk
     }
-    Ok(())
-}
 
-// Takes the edges of node i, until the node itself is marked again.
-fn take_edges<A: Analysis>(
-    a: &A,
-    workspace: &mut [u16],
-    out: &mut [u16],
-    marks: &mut Marks,
-    i: usize,
-)
-    requires node { i < nodes (A.Analysis.framework a.now) }
-    requires room { Room (A.Analysis.framework a.now) workspace.old }
-    requires out { OneRow out.old }
-    requires shown { Shown (A.Analysis.framework a.now) workspace.old }
-    requires held { Held (A.Analysis.framework a.now) (table (A.Analysis.framework a.now) workspace.old) }
-    requires settled { Settled (A.Analysis.framework a.now) (marked marks.old.words) i 0 (table (A.Analysis.framework a.now) workspace.old) }
-    requires inside { Inside (A.Analysis.framework a.now) (marked marks.old.words) }
-    ensures shown { Shown (A.Analysis.framework a.now) workspace.new }
-    ensures done { NodeDone (A.Analysis.framework a.now) (table (A.Analysis.framework a.now) workspace.old) (marked marks.old.words) (table (A.Analysis.framework a.now) workspace.new) (marked marks.new.words) }
-    ensures behind { rest (A.Analysis.framework a.now) workspace.new ≡ rest (A.Analysis.framework a.now) workspace.old }
-{
-    let m = a.edges(i);
-    for e in 0..m {
-        if marks.has(i) {
-            return;
+    // Writes a row at node `i`.
+    fn write(&mut self, i: usize, row: &[u16; WIDTH])
+        requires node { i < nodes (A.Analysis.framework self.old.analysis.now) }
+        requires shows { (A.Analysis.framework self.old.analysis.now).shows row.now }
+        ensures written { Written (A.Analysis.framework self.old.analysis.now) i ((A.Analysis.framework self.old.analysis.now).read row.now) self.old.workspace.now self.new.workspace.now }
+        ensures marks { self.new.marks ≡ self.old.marks }
+        ensures analysis { self.new.analysis ≡ self.old.analysis }
+        ensures same { self.new.workspace.ghost_name ≡ self.old.workspace.ghost_name }
+    {
+        let from = i * WIDTH;
+        self.workspace[from..from + WIDTH].copy_from_slice(row);
+    }
+
+    /// Looks at marked nodes until none is left, or until one of them refuses its row.
+    pub fn settle(&mut self) -> Result<(), Unsolved>
+        requires underway { Underway (A.Analysis.framework self.old.analysis.now) self.old.workspace.now (marked self.old.marks.words) }
+        requires settled { AllSettled (A.Analysis.framework self.old.analysis.now) (marked self.old.marks.words) (table (A.Analysis.framework self.old.analysis.now) self.old.workspace.now) }
+        ensures underway { Underway (A.Analysis.framework self.old.analysis.now) self.new.workspace.now (marked self.new.marks.words) }
+        ensures answer { MatchResult result (λ _. Least (A.Analysis.framework self.old.analysis.now) (table (A.Analysis.framework self.old.analysis.now) self.new.workspace.now)) (λ e. (e ≡ Unsolved.Refused) × Unsolvable (A.Analysis.framework self.old.analysis.now)) }
+        ensures behind { rest (A.Analysis.framework self.old.analysis.now) self.new.workspace.now ≡ rest (A.Analysis.framework self.old.analysis.now) self.old.workspace.now }
+        ensures same { self.new.workspace.ghost_name ≡ self.old.workspace.ghost_name }
+    {
+        while let Some(i) = self.marks.first() {
+            if self.refuses(i) {
+                return Err(Unsolved::Refused);
+            }
+            self.marks.clear(i);
+            self.take_edges(i);
         }
-        take_edge(a, workspace, out, marks, i, e);
+        Ok(())
     }
-}
 
-// Takes edge e of node i, which is not marked: what it sends is joined into the row of the node that it goes to.
-fn take_edge<A: Analysis>(
-    a: &A,
-    workspace: &mut [u16],
-    out: &mut [u16],
-    marks: &mut Marks,
-    i: usize,
-    e: usize,
-)
-    requires node { i < nodes (A.Analysis.framework a.now) }
-    requires edge { e < (A.Analysis.framework a.now).flow.edges i }
-    requires room { Room (A.Analysis.framework a.now) workspace.old }
-    requires out { OneRow out.old }
-    requires shown { Shown (A.Analysis.framework a.now) workspace.old }
-    requires clean { marked marks.old.words i ≡ false }
-    requires held { Held (A.Analysis.framework a.now) (table (A.Analysis.framework a.now) workspace.old) }
-    requires settled { Settled (A.Analysis.framework a.now) (marked marks.old.words) i e (table (A.Analysis.framework a.now) workspace.old) }
-    requires inside { Inside (A.Analysis.framework a.now) (marked marks.old.words) }
-    ensures shown { Shown (A.Analysis.framework a.now) workspace.new }
-    ensures midway { Midway (A.Analysis.framework a.now) i (e + 1) (table (A.Analysis.framework a.now) workspace.old) (marked marks.old.words) (table (A.Analysis.framework a.now) workspace.new) (marked marks.new.words) }
-    ensures behind { rest (A.Analysis.framework a.now) workspace.new ≡ rest (A.Analysis.framework a.now) workspace.old }
-{
-    if let Some(k) = rows::send(a, workspace, i, e, out) {
-        raise(a, workspace, marks, k, out);
+    // Whether node `i` refuses its row.
+    fn refuses(&self, i: usize) -> bool
+        requires node { i < nodes (A.Analysis.framework self.now.analysis.now) }
+        requires shown { Shown (A.Analysis.framework self.now.analysis.now) self.now.workspace.now }
+        ensures { result ≡ (A.Analysis.framework self.now.analysis.now).flow.refused i (table (A.Analysis.framework self.now.analysis.now) self.now.workspace.now i) }
+    {
+        let from = i * WIDTH;
+        self.analysis
+            .refuses(i, &self.workspace[from..from + WIDTH])
     }
-}
 
-// Joins `other` into the row of node k, and marks the node where that changed it.
-fn raise<A: Analysis>(a: &A, workspace: &mut [u16], marks: &mut Marks, k: usize, other: &[u16])
-    requires node { k < nodes (A.Analysis.framework a.now) }
-    requires room { Room (A.Analysis.framework a.now) workspace.old }
-    requires shown { Shown (A.Analysis.framework a.now) workspace.old }
-    requires other { (A.Analysis.framework a.now).shows other.now }
-    ensures shown { Shown (A.Analysis.framework a.now) workspace.new }
-    ensures raised { Raised (A.Analysis.framework a.now) k ((A.Analysis.framework a.now).read other.now) (table (A.Analysis.framework a.now) workspace.old) (marked marks.old.words) (table (A.Analysis.framework a.now) workspace.new) (marked marks.new.words) }
-    ensures behind { rest (A.Analysis.framework a.now) workspace.new ≡ rest (A.Analysis.framework a.now) workspace.old }
-{
-    if rows::join(a, workspace, k, other) {
-        marks.set(k);
+    // Takes the edges of node `i`, until the node itself is marked again.
+    fn take_edges(&mut self, i: usize)
+        requires node { i < nodes (A.Analysis.framework self.old.analysis.now) }
+        requires underway { Underway (A.Analysis.framework self.old.analysis.now) self.old.workspace.now (marked self.old.marks.words) }
+        requires settled { Settled (A.Analysis.framework self.old.analysis.now) (marked self.old.marks.words) i 0 (table (A.Analysis.framework self.old.analysis.now) self.old.workspace.now) }
+        ensures underway { Underway (A.Analysis.framework self.old.analysis.now) self.new.workspace.now (marked self.new.marks.words) }
+        ensures done { NodeDone (A.Analysis.framework self.old.analysis.now) (table (A.Analysis.framework self.old.analysis.now) self.old.workspace.now) (marked self.old.marks.words) (table (A.Analysis.framework self.old.analysis.now) self.new.workspace.now) (marked self.new.marks.words) }
+        ensures behind { rest (A.Analysis.framework self.old.analysis.now) self.new.workspace.now ≡ rest (A.Analysis.framework self.old.analysis.now) self.old.workspace.now }
+        ensures analysis { self.new.analysis ≡ self.old.analysis }
+        ensures same { self.new.workspace.ghost_name ≡ self.old.workspace.ghost_name }
+    {
+        for e in 0..self.analysis.edges(i) {
+            if self.marks.has(i) {
+                return;
+            }
+            self.take_edge(i, e);
+        }
+    }
+
+    // Takes edge `e` of node `i`, which is not marked: what it sends is joined into the row of the node that it goes to.
+    fn take_edge(&mut self, i: usize, e: usize)
+        requires node { i < nodes (A.Analysis.framework self.old.analysis.now) }
+        requires edge { e < (A.Analysis.framework self.old.analysis.now).flow.edges i }
+        requires underway { Underway (A.Analysis.framework self.old.analysis.now) self.old.workspace.now (marked self.old.marks.words) }
+        requires clean { marked self.old.marks.words i ≡ false }
+        requires settled { Settled (A.Analysis.framework self.old.analysis.now) (marked self.old.marks.words) i e (table (A.Analysis.framework self.old.analysis.now) self.old.workspace.now) }
+        ensures underway { Underway (A.Analysis.framework self.old.analysis.now) self.new.workspace.now (marked self.new.marks.words) }
+        ensures midway { Midway (A.Analysis.framework self.old.analysis.now) i (e + 1) (table (A.Analysis.framework self.old.analysis.now) self.old.workspace.now) (marked self.old.marks.words) (table (A.Analysis.framework self.old.analysis.now) self.new.workspace.now) (marked self.new.marks.words) }
+        ensures behind { rest (A.Analysis.framework self.old.analysis.now) self.new.workspace.now ≡ rest (A.Analysis.framework self.old.analysis.now) self.old.workspace.now }
+        ensures analysis { self.new.analysis ≡ self.old.analysis }
+        ensures same { self.new.workspace.ghost_name ≡ self.old.workspace.ghost_name }
+    {
+        let mut sent = [0; WIDTH];
+        if let Some(k) = self.send(i, e, &mut sent) {
+            self.raise(k, &sent);
+        }
+    }
+
+    // Writes what edge `e` of node `i` sends from its row, and answers where to.
+    fn send(&self, i: usize, e: usize, out: &mut [u16; WIDTH]) -> Option<usize>
+        requires node { i < nodes (A.Analysis.framework self.now.analysis.now) }
+        requires edge { e < (A.Analysis.framework self.now.analysis.now).flow.edges i }
+        requires shown { Shown (A.Analysis.framework self.now.analysis.now) self.now.workspace.now }
+        requires taken { (A.Analysis.framework self.now.analysis.now).flow.refused i (table (A.Analysis.framework self.now.analysis.now) self.now.workspace.now i) ≡ false }
+        ensures shows { OnSome result ((A.Analysis.framework self.now.analysis.now).shows out.new) }
+        ensures sends { MatchOption result ((A.Analysis.framework self.now.analysis.now).flow.sends i e (table (A.Analysis.framework self.now.analysis.now) self.now.workspace.now i) ≡ nothing) (λ k. (A.Analysis.framework self.now.analysis.now).flow.sends i e (table (A.Analysis.framework self.now.analysis.now) self.now.workspace.now i) ≡ sent k ((A.Analysis.framework self.now.analysis.now).read out.new)) }
+    {
+        let from = i * WIDTH;
+        self.analysis
+            .send(i, e, &self.workspace[from..from + WIDTH], out)
+    }
+
+    // Joins the row that was sent into the row of node `k`, and marks the node where that changed it.
+    fn raise(&mut self, k: usize, sent: &[u16; WIDTH])
+        requires node { k < nodes (A.Analysis.framework self.old.analysis.now) }
+        requires shown { Shown (A.Analysis.framework self.old.analysis.now) self.old.workspace.now }
+        requires sent { (A.Analysis.framework self.old.analysis.now).shows sent.now }
+        ensures shown { Shown (A.Analysis.framework self.old.analysis.now) self.new.workspace.now }
+        ensures raised { Raised (A.Analysis.framework self.old.analysis.now) k ((A.Analysis.framework self.old.analysis.now).read sent.now) (table (A.Analysis.framework self.old.analysis.now) self.old.workspace.now) (marked self.old.marks.words) (table (A.Analysis.framework self.old.analysis.now) self.new.workspace.now) (marked self.new.marks.words) }
+        ensures behind { rest (A.Analysis.framework self.old.analysis.now) self.new.workspace.now ≡ rest (A.Analysis.framework self.old.analysis.now) self.old.workspace.now }
+        ensures analysis { self.new.analysis ≡ self.old.analysis }
+        ensures same { self.new.workspace.ghost_name ≡ self.old.workspace.ghost_name }
+    {
+        let from = k * WIDTH;
+        let row = &mut self.workspace[from..from + WIDTH];
+        if self.analysis.join(row, sent) {
+            self.marks.set(k);
+        }
     }
 }

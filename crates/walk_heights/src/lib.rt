@@ -7,7 +7,7 @@ ghost use Rattle.walk_heights.specs.HeightLaws.{height_framework};
 mod code;
 
 pub use code::Code;
-use walk::{Analysis, Unsolved, walk};
+use walk::{Analysis, Unsolved, WIDTH, walk};
 
 // 1 + the greatest height, and one more.
 const CLASH: u16 = 18;
@@ -23,11 +23,11 @@ impl<'a> Analysis for Code<'a> {
         self.steps.len()
     }
 
-    fn bottom(&self, out: &mut [u16]) {
+    fn bottom(&self, out: &mut [u16; WIDTH]) {
         out[0] = 0;
     }
 
-    fn start(&self, out: &mut [u16]) {
+    fn start(&self, out: &mut [u16; WIDTH]) {
         out[0] = 1;
     }
 
@@ -56,7 +56,7 @@ impl<'a> Analysis for Code<'a> {
         2
     }
 
-    fn send(&self, i: usize, e: usize, row: &[u16], out: &mut [u16]) -> Option<usize> {
+    fn send(&self, i: usize, e: usize, row: &[u16], out: &mut [u16; WIDTH]) -> Option<usize> {
         let c = self.steps[i];
         let h = row[0];
         if h == 0 || (e > 0 && c >= PUSH) {
