@@ -3,6 +3,7 @@ pub mod Waiting
 pub mod Views
 pub mod Moving
 pub mod Stepping
+pub mod Ready
 pub mod Catching
 pub mod FieldValues
 pub mod Creating

@@ -1,15 +1,14 @@
 // Invoke: the method that the receiver's class sees, in a frame of its own.
 ghost use Rattle.std.specs.Prelude.{◌≡◌, ◌+◌, ◌<◌, ◌≤◌, length};
 ghost use Rattle.heap.specs.Meaning.{Meaning};
-ghost use Rattle.format.specs.Limits.{max_instrs};
 ghost use Rattle.jinja.specs.declared.instr.Instr.TheVariants as instrs;
 ghost use Rattle.jinja.specs.Lookups.{Owned};
 ghost use Rattle.jinja.specs.Values.{fit_all};
 ghost use Rattle.tables.specs.Views.{program_of};
-ghost use Rattle.tables.specs.Methods.{Whole};
-ghost use Rattle.engine.specs.Limits.{register_limit, Fitting};
-ghost use Rattle.engine.specs.Views.{lowest_frames, frames_of};
-ghost use Rattle.engine.specs.Stepping.{top_pc, top_stack, settle, Steps};
+ghost use Rattle.engine.specs.Limits.{register_limit};
+ghost use Rattle.engine.specs.Ready.{Ready};
+ghost use Rattle.engine.specs.Views.{lowest_frames, frames_of, meaning_of};
+ghost use Rattle.engine.specs.Stepping.{top_stack, settle, Steps};
 ghost use Rattle.engine.specs.Calling.{arguments, fresh, call_top, above};
 
 use crate::fitting::fit_all;
@@ -17,6 +16,7 @@ use crate::frame::Frame;
 use crate::frames::{Frames, MAX_FRAMES};
 use crate::next::Next;
 use crate::objects::{class_at, raise};
+use crate::program::Program;
 use crate::references::NULL_POINTER_AT;
 use heap::store::Heap;
 use heap::value::Value;
@@ -26,23 +26,20 @@ use tables::tables::Tables;
 
 // Invoke with `n` arguments.
 pub(crate) fn invoke<H: Heap>(
-    tables: &Tables,
+    program: Program,
     heap: &H,
     frames: &mut Frames,
     height: usize,
     name: Name,
     n: u8,
 ) -> Option<Next>
-    requires whole { Whole tables.now }
-    requires fitting { Fitting (program_of tables.now) }
-    requires some { 0 < frames.old.count }
-    requires inside { top_pc (frames_of frames.old) < max_instrs }
-    ensures { Steps (program_of tables.now) height (instrs.Invoke name n) (H.Heap.meaning heap.now) (frames_of frames.old) result (H.Heap.meaning heap.now) (frames_of frames.new) }
+    requires ready { Ready frames.old }
+    ensures { Steps (meaning_of program.entry) height (instrs.Invoke name n) (H.Heap.meaning heap.now) (frames_of frames.old) result (H.Heap.meaning heap.now) (frames_of frames.new) }
 {
     let receiver = frames.operand(n as usize)?;
     match receiver {
-        Value::Null => raise(tables, heap, frames, NULL_POINTER_AT),
-        Value::Addr(a) => call(tables, heap, frames, height, name, n as usize, a),
+        Value::Null => raise(program, heap, frames, NULL_POINTER_AT),
+        Value::Addr(a) => call(program, heap, frames, height, name, n as usize, a),
         Value::Unit => None,
         Value::Bool(_) => None,
         Value::Int(_) => None,
@@ -51,7 +48,7 @@ pub(crate) fn invoke<H: Heap>(
 
 // The object at `a` is called with `n` arguments.
 fn call<H: Heap>(
-    tables: &Tables,
+    program: Program,
     heap: &H,
     frames: &mut Frames,
     height: usize,
@@ -59,17 +56,14 @@ fn call<H: Heap>(
     n: usize,
     a: u16,
 ) -> Option<Next>
-    requires whole { Whole tables.now }
-    requires fitting { Fitting (program_of tables.now) }
-    requires some { 0 < frames.old.count }
-    requires inside { top_pc (frames_of frames.old) < max_instrs }
+    requires ready { Ready frames.old }
     requires high { n < length (top_stack (frames_of frames.old)) }
-    ensures { (M : Owned) → M.method.height ≡ height → (result, H.Heap.meaning heap.now, frames_of frames.new) ≡ settle (H.Heap.meaning heap.now) (frames_of frames.old) (call_top (program_of tables.now) (H.Heap.meaning heap.now) name n a M (frames_of frames.old)) }
+    ensures { (M : Owned) → M.method.height ≡ height → (result, H.Heap.meaning heap.now, frames_of frames.new) ≡ settle (H.Heap.meaning heap.now) (frames_of frames.old) (call_top (meaning_of program.entry) (H.Heap.meaning heap.now) name n a M (frames_of frames.old)) }
 {
     let c = class_at(heap, a)?;
-    let k = tables.sees(c, name)?;
-    let method = tables.method(k)?;
-    if !frames.arguments_fit(tables, heap, n, tables.params_from(method)) {
+    let k = program.tables.sees(c, name)?;
+    let method = program.tables.method(k)?;
+    if !frames.arguments_fit(program.tables, heap, n, program.tables.params_from(method)) {
         return None;
     }
     if frames.height() - (n + 1) >= height {
@@ -90,8 +84,7 @@ impl Frames {
 
     // A frame of the method `k` on top, for this object and the `n` topmost operands, where there is room.
     fn enter(&mut self, k: usize, this: u16, n: usize, extras: usize) -> Option<Next>
-        requires some { 0 < self.old.count }
-        requires inside { top_pc (frames_of self.old) < max_instrs }
+        requires ready { Ready self.old }
         requires high { n ≤ length (top_stack (frames_of self.old)) }
         requires few { 1 + n + extras ≤ register_limit }
         ensures { (h : Meaning) → (result, h, frames_of self.new) ≡ settle h (frames_of self.old) (above h (fresh k this (arguments n (top_stack (frames_of self.old))) extras) (frames_of self.old)) }

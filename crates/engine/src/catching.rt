@@ -2,28 +2,27 @@
 ghost use Rattle.std.specs.Prelude.{◌≡◌, ◌≤◌, length};
 ghost use Rattle.jinja.specs.Step.{catches, catcher};
 ghost use Rattle.tables.specs.Views.{program_of};
-ghost use Rattle.tables.specs.Methods.{Whole};
 ghost use Rattle.engine.specs.Catching.{looked, Caught};
-ghost use Rattle.engine.specs.Views.{frame_of};
+ghost use Rattle.engine.specs.Views.{frame_of, meaning_of};
 
 use crate::frame::Frame;
+use crate::program::Program;
 use jinja::program::{ClassNumber, Handler};
 use tables::tables::Tables;
 
 // The topmost of the lowest `count` frames with a handler that catches an object of class `c`, if there is one. No answer
 // where a frame without a method is on the way.
 pub(crate) fn find(
-    tables: &Tables,
+    program: Program,
     frames: &[Frame],
     count: usize,
     c: ClassNumber,
 ) -> Option<Option<(usize, Handler)>>
-    requires whole { Whole tables.now }
     requires within { count ≤ length frames.now }
-    ensures { Caught (program_of tables.now) c frames.now count result }
+    ensures { Caught (meaning_of program.entry) c frames.now count result }
 {
     for k in (0..count).rev() {
-        if let Some(handler) = handler_in(tables, &frames[k], c)? {
+        if let Some(handler) = handler_in(program, &frames[k], c)? {
             return Some(Some((k, handler)));
         }
     }
@@ -31,12 +30,16 @@ pub(crate) fn find(
 }
 
 // The handler of the frame's method that catches at its place, if there is such a method.
-fn handler_in(tables: &Tables, frame: &Frame, c: ClassNumber) -> Option<Option<Handler>>
-    requires { Whole tables.now }
-    ensures { result ≡ looked (program_of tables.now) c (frame_of frame.now) }
+fn handler_in(program: Program, frame: &Frame, c: ClassNumber) -> Option<Option<Handler>>
+    ensures { result ≡ looked (meaning_of program.entry) c (frame_of frame.now) }
 {
-    tables.method(frame.method)?;
-    Some(catcher(tables, tables.handlers_of(frame.method), frame.pc, c))
+    program.tables.method(frame.method)?;
+    Some(catcher(
+        program.tables,
+        program.tables.handlers_of(frame.method),
+        frame.pc,
+        c,
+    ))
 }
 
 // The first handler that catches.

@@ -1,18 +1,18 @@
 // New, and objects with the values that their fields start with.
 ghost use Rattle.std.specs.Prelude.{◌≡◌, ◌+◌, ◌<◌, ◌≤◌, length, take};
-ghost use Rattle.format.specs.Limits.{max_instrs};
 ghost use Rattle.jinja.specs.declared.instr.Instr.TheVariants as instrs;
 ghost use Rattle.jinja.specs.Values.{start_value, start_row};
 ghost use Rattle.tables.specs.Views.{program_of};
-ghost use Rattle.tables.specs.Methods.{Whole};
-ghost use Rattle.engine.specs.Limits.{cell_limit, Fitting};
-ghost use Rattle.engine.specs.Views.{frames_of};
-ghost use Rattle.engine.specs.Stepping.{top_pc, Steps};
+ghost use Rattle.engine.specs.Limits.{cell_limit};
+ghost use Rattle.engine.specs.Ready.{Ready};
+ghost use Rattle.engine.specs.Views.{frames_of, meaning_of};
+ghost use Rattle.engine.specs.Stepping.{Steps};
 ghost use Rattle.engine.specs.Creating.{appended, created, Started, SameFrom};
 
 use crate::frames::Frames;
 use crate::next::Next;
 use crate::objects::raise;
+use crate::program::Program;
 use crate::references::OUT_OF_MEMORY_AT;
 use heap::limits::ROW_LIMIT;
 use heap::store::Heap;
@@ -23,31 +23,28 @@ use tables::tables::Tables;
 
 // New.
 pub(crate) fn create<H: Heap>(
-    tables: &Tables,
+    program: Program,
     heap: &mut H,
     frames: &mut Frames,
     height: usize,
     c: ClassNumber,
 ) -> Option<Next>
-    requires whole { Whole tables.now }
-    requires fitting { Fitting (program_of tables.now) }
-    requires some { 0 < frames.old.count }
-    requires inside { top_pc (frames_of frames.old) < max_instrs }
+    requires ready { Ready frames.old }
     requires low { height ≤ cell_limit }
-    ensures { Steps (program_of tables.now) height (instrs.New c) (H.Heap.meaning heap.old) (frames_of frames.old) result (H.Heap.meaning heap.new) (frames_of frames.new) }
+    ensures { Steps (meaning_of program.entry) height (instrs.New c) (H.Heap.meaning heap.old) (frames_of frames.old) result (H.Heap.meaning heap.new) (frames_of frames.new) }
 {
-    if !tables.is_class(c) {
+    if !program.tables.is_class(c) {
         return None;
     }
     if frames.height() >= height {
         return None;
     }
-    match add_object(tables, heap, c) {
+    match add_object(program.tables, heap, c) {
         Some(a) => {
             frames.pass_with(0, Value::Addr(a));
             Some(Next::Goes)
         }
-        None => raise(tables, heap, frames, OUT_OF_MEMORY_AT),
+        None => raise(program, heap, frames, OUT_OF_MEMORY_AT),
     }
 }
 

@@ -1,18 +1,17 @@
 // Getfield, and the fields of a heap's objects.
 ghost use Rattle.std.specs.Prelude.{◌≡◌, ◌<◌};
-ghost use Rattle.format.specs.Limits.{max_instrs};
 ghost use Rattle.jinja.specs.declared.instr.Instr.TheVariants as instrs;
 ghost use Rattle.tables.specs.Views.{program_of};
-ghost use Rattle.tables.specs.Methods.{Whole};
-ghost use Rattle.engine.specs.Limits.{Fitting};
-ghost use Rattle.engine.specs.Views.{frames_of};
-ghost use Rattle.engine.specs.Stepping.{top_pc, Steps};
+ghost use Rattle.engine.specs.Ready.{Ready};
+ghost use Rattle.engine.specs.Views.{frames_of, meaning_of};
+ghost use Rattle.engine.specs.Stepping.{Steps};
 ghost use Rattle.engine.specs.FieldValues.{value_at, field_value};
 
 use crate::fitting::fits;
 use crate::frames::Frames;
 use crate::next::Next;
 use crate::objects::{class_at, raise};
+use crate::program::Program;
 use crate::references::NULL_POINTER_AT;
 use heap::store::Heap;
 use heap::value::Value;
@@ -20,28 +19,25 @@ use jinja::program::{ClassNumber, FieldPlace, Name};
 use tables::tables::Tables;
 
 pub(crate) fn getfield<H: Heap>(
-    tables: &Tables,
+    program: Program,
     heap: &H,
     frames: &mut Frames,
     height: usize,
     name: Name,
     c: ClassNumber,
 ) -> Option<Next>
-    requires whole { Whole tables.now }
-    requires fitting { Fitting (program_of tables.now) }
-    requires some { 0 < frames.old.count }
-    requires inside { top_pc (frames_of frames.old) < max_instrs }
-    ensures { Steps (program_of tables.now) height (instrs.Getfield name c) (H.Heap.meaning heap.now) (frames_of frames.old) result (H.Heap.meaning heap.now) (frames_of frames.new) }
+    requires ready { Ready frames.old }
+    ensures { Steps (meaning_of program.entry) height (instrs.Getfield name c) (H.Heap.meaning heap.now) (frames_of frames.old) result (H.Heap.meaning heap.now) (frames_of frames.new) }
 {
     let v = frames.operand(0)?;
-    let field = tables.own_field(c, name)?;
+    let field = program.tables.own_field(c, name)?;
     if frames.height() > height {
         return None;
     }
     match v {
-        Value::Null => raise(tables, heap, frames, NULL_POINTER_AT),
+        Value::Null => raise(program, heap, frames, NULL_POINTER_AT),
         Value::Addr(a) => {
-            let value = field_value(tables, heap, field, c, a)?;
+            let value = field_value(program.tables, heap, field, c, a)?;
             frames.pass_with(1, value);
             Some(Next::Goes)
         }

@@ -2,18 +2,15 @@
 ghost use Rattle.std.specs.Prelude.{◌≡◌};
 ghost use Rattle.jinja.specs.Step.{raise};
 ghost use Rattle.jinja.specs.Values.{class_of};
-ghost use Rattle.tables.specs.Views.{program_of};
-ghost use Rattle.tables.specs.Methods.{Whole};
-ghost use Rattle.engine.specs.Limits.{Fitting};
-ghost use Rattle.engine.specs.Views.{frames_of};
+ghost use Rattle.engine.specs.Views.{frames_of, meaning_of};
 ghost use Rattle.engine.specs.Stepping.{settle};
 
 use crate::frames::Frames;
 use crate::next::Next;
+use crate::program::Program;
 use crate::throwing::unwind;
 use heap::store::Heap;
 use jinja::program::ClassNumber;
-use tables::tables::Tables;
 
 // The class of the object at an address.
 pub(crate) fn class_at<H: Heap>(heap: &H, a: u16) -> Option<ClassNumber>
@@ -23,11 +20,14 @@ pub(crate) fn class_at<H: Heap>(heap: &H, a: u16) -> Option<ClassNumber>
 }
 
 // The object at `a` is thrown in the top frame.
-pub(crate) fn raise<H: Heap>(tables: &Tables, heap: &H, frames: &mut Frames, a: u16) -> Option<Next>
-    requires whole { Whole tables.now }
-    requires fitting { Fitting (program_of tables.now) }
-    ensures { (result, H.Heap.meaning heap.now, frames_of frames.new) ≡ settle (H.Heap.meaning heap.now) (frames_of frames.old) (raise (program_of tables.now) (H.Heap.meaning heap.now) a (frames_of frames.old)) }
+pub(crate) fn raise<H: Heap>(
+    program: Program,
+    heap: &H,
+    frames: &mut Frames,
+    a: u16,
+) -> Option<Next>
+    ensures { (result, H.Heap.meaning heap.now, frames_of frames.new) ≡ settle (H.Heap.meaning heap.now) (frames_of frames.old) (raise (meaning_of program.entry) (H.Heap.meaning heap.now) a (frames_of frames.old)) }
 {
     let c = class_at(heap, a)?;
-    unwind(tables, frames, a, c)
+    unwind(program, frames, a, c)
 }

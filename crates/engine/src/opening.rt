@@ -1,11 +1,11 @@
 // New frames, written in place: only what the method has is set.
 ghost use Rattle.std.specs.Prelude.{◌≡◌, ◌+◌, ◌<◌, ◌≤◌, [], ◌∷◌, ◌++◌, length, take, drop, replicate, slice_index_or, slice_set};
 ghost use Rattle.heap.specs.declared.value.Value.TheVariants.{Unit as unit};
-ghost use Rattle.format.specs.Limits.{max_instrs};
 ghost use Rattle.jinja.specs.Step.{frame_limit};
 ghost use Rattle.engine.specs.Limits.{register_limit};
+ghost use Rattle.engine.specs.Ready.{Ready};
 ghost use Rattle.engine.specs.Views.{frame_of, lowest_frames, frames_of};
-ghost use Rattle.engine.specs.Stepping.{top_pc, top_stack};
+ghost use Rattle.engine.specs.Stepping.{top_stack};
 ghost use Rattle.engine.specs.Calling.{arguments, fresh};
 
 use crate::frame::{CELLS, Frame, REGISTERS};
@@ -49,9 +49,8 @@ impl Frames {
 
     // A frame of the method `k` on top, for this object and the `n` topmost operands of the frame below.
     pub(crate) fn open_above(&mut self, k: usize, this: u16, n: usize, extras: usize)
-        requires some { 0 < self.old.count }
+        requires ready { Ready self.old }
         requires room { length (frames_of self.old) < frame_limit }
-        requires inside { top_pc (frames_of self.old) < max_instrs }
         requires high { n ≤ length (top_stack (frames_of self.old)) }
         requires few { 1 + n + extras ≤ register_limit }
         ensures { frames_of self.new ≡ fresh k this (arguments n (top_stack (frames_of self.old))) extras ∷ frames_of self.old }

@@ -1,19 +1,18 @@
 // Putfield: another value at a field's place.
 ghost use Rattle.std.specs.Prelude.{◌≡◌, ◌<◌, ◌≤◌, length, is_some};
 ghost use Rattle.heap.specs.Calls.{has_field, after_write};
-ghost use Rattle.format.specs.Limits.{max_instrs};
 ghost use Rattle.jinja.specs.declared.instr.Instr.TheVariants as instrs;
 ghost use Rattle.tables.specs.Views.{program_of};
-ghost use Rattle.tables.specs.Methods.{Whole};
-ghost use Rattle.engine.specs.Limits.{Fitting};
-ghost use Rattle.engine.specs.Views.{frames_of};
-ghost use Rattle.engine.specs.Stepping.{top_pc, top_stack, settle, Steps};
+ghost use Rattle.engine.specs.Ready.{Ready};
+ghost use Rattle.engine.specs.Views.{frames_of, meaning_of};
+ghost use Rattle.engine.specs.Stepping.{top_stack, settle, Steps};
 ghost use Rattle.engine.specs.FieldValues.{put_top};
 
 use crate::fitting::fits;
 use crate::frames::Frames;
 use crate::next::Next;
 use crate::objects::{class_at, raise};
+use crate::program::Program;
 use crate::references::NULL_POINTER_AT;
 use heap::store::Heap;
 use heap::value::Value;
@@ -21,28 +20,25 @@ use jinja::program::{ClassNumber, FieldPlace, Name};
 use tables::tables::Tables;
 
 pub(crate) fn putfield<H: Heap>(
-    tables: &Tables,
+    program: Program,
     heap: &mut H,
     frames: &mut Frames,
     height: usize,
     name: Name,
     c: ClassNumber,
 ) -> Option<Next>
-    requires whole { Whole tables.now }
-    requires fitting { Fitting (program_of tables.now) }
-    requires some { 0 < frames.old.count }
-    requires inside { top_pc (frames_of frames.old) < max_instrs }
-    ensures { Steps (program_of tables.now) height (instrs.Putfield name c) (H.Heap.meaning heap.old) (frames_of frames.old) result (H.Heap.meaning heap.new) (frames_of frames.new) }
+    requires ready { Ready frames.old }
+    ensures { Steps (meaning_of program.entry) height (instrs.Putfield name c) (H.Heap.meaning heap.old) (frames_of frames.old) result (H.Heap.meaning heap.new) (frames_of frames.new) }
 {
     let reference = frames.operand(1)?;
     let v = frames.operand(0)?;
-    let field = tables.own_field(c, name)?;
-    if !fits(tables, heap, v, field.ty) {
+    let field = program.tables.own_field(c, name)?;
+    if !fits(program.tables, heap, v, field.ty) {
         return None;
     }
     match reference {
-        Value::Null => raise(tables, heap, frames, NULL_POINTER_AT),
-        Value::Addr(a) => put(tables, heap, frames, field, c, a, v),
+        Value::Null => raise(program, heap, frames, NULL_POINTER_AT),
+        Value::Addr(a) => put(program.tables, heap, frames, field, c, a, v),
         Value::Unit => None,
         Value::Bool(_) => None,
         Value::Int(_) => None,
@@ -59,8 +55,7 @@ fn put<H: Heap>(
     a: u16,
     v: Value,
 ) -> Option<Next>
-    requires some { 0 < frames.old.count }
-    requires inside { top_pc (frames_of frames.old) < max_instrs }
+    requires ready { Ready frames.old }
     requires high { 2 ≤ length (top_stack (frames_of frames.old)) }
     ensures { (result, H.Heap.meaning heap.new, frames_of frames.new) ≡ settle (H.Heap.meaning heap.old) (frames_of frames.old) (put_top (program_of tables.now) (H.Heap.meaning heap.old) field c a v (frames_of frames.old)) }
 {

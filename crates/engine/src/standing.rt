@@ -3,6 +3,7 @@ ghost use Rattle.std.specs.Prelude.{◌≡◌, ◌+◌, ◌-◌, ◌<◌, ◌≤
 ghost use Rattle.std.specs.List.{slice_get};
 ghost use Rattle.format.specs.Limits.{max_instrs};
 ghost use Rattle.engine.specs.Limits.{cell_limit};
+ghost use Rattle.engine.specs.Ready.{Ready};
 ghost use Rattle.engine.specs.Views.{lowest_frames, frames_of};
 ghost use Rattle.engine.specs.Stepping.{top_method, top_pc, top_stack, past, past_with, StepsLocally};
 
@@ -124,8 +125,7 @@ impl Frames {
 
     // The top frame goes on without its `n` topmost operands.
     pub(crate) fn pass(&mut self, n: usize)
-        requires some { 0 < self.old.count }
-        requires inside { top_pc (frames_of self.old) < max_instrs }
+        requires ready { Ready self.old }
         requires high { n ≤ length (top_stack (frames_of self.old)) }
         ensures { frames_of self.new ≡ past n (frames_of self.old) }
     {
@@ -134,8 +134,7 @@ impl Frames {
 
     // And with a value in their place.
     pub(crate) fn pass_with(&mut self, n: usize, value: Value)
-        requires some { 0 < self.old.count }
-        requires inside { top_pc (frames_of self.old) < max_instrs }
+        requires ready { Ready self.old }
         requires high { n ≤ length (top_stack (frames_of self.old)) }
         requires low { length (top_stack (frames_of self.old)) - n < cell_limit }
         ensures { frames_of self.new ≡ past_with n value (frames_of self.old) }
@@ -146,8 +145,7 @@ impl Frames {
     // An instruction that moves the top frame alone, of a method of this greatest height and so many instructions.
     #[inline]
     pub(crate) fn local(&mut self, height: usize, size: usize, instr: Instr) -> Option<Next>
-        requires some { 0 < self.old.count }
-        requires inside { top_pc (frames_of self.old) < max_instrs }
+        requires ready { Ready self.old }
         requires low { height ≤ cell_limit }
         ensures { StepsLocally height size instr (frames_of self.old) result (frames_of self.new) }
     {

@@ -1,5 +1,5 @@
 // What begins a run: new objects, the test of the arguments, and the first frame.
-ghost use Rattle.std.specs.Prelude.{◌≡◌, false, List, [], ◌∷◌, length, Some, None, MatchOption, nat_eq};
+ghost use Rattle.std.specs.Prelude.{◌≡◌, false, List, [], ◌∷◌, length, Some, None, MatchOption, is_some, nat_eq};
 ghost use Rattle.heap.specs.declared.charge.ChargeLine.{ChargeLine};
 ghost use Rattle.heap.specs.Calls.{vacant};
 ghost use Rattle.jinja.specs.Classes.{maybe};
@@ -13,7 +13,7 @@ ghost use Rattle.engine.specs.Views.{frames_of};
 use crate::creating::add_object;
 use crate::fitting::fit_alone;
 use crate::frames::Frames;
-use crate::sets::tables_of;
+use crate::program::Program;
 use heap::store::Heap;
 use heap::value::Value;
 use jinja::program::ClassNumber;
@@ -33,7 +33,7 @@ pub fn arguments_fit(set: &Set, k: usize, args: &[Value]) -> bool
     ensures fit { (N : Owned) (ls : List ChargeLine) → method_at (set_program set.now) k ≡ Some N → result ≡ fit_all (set_program set.now) (vacant ls) args.now N.method.params }
     ensures none { method_at (set_program set.now) k ≡ None → result ≡ false }
 {
-    let tables = tables_of(set);
+    let tables = Program::of(set).tables;
     match tables.method(k) {
         Some(method) => fit_alone(tables, args, tables.params_from(method)),
         None => false,
@@ -42,18 +42,16 @@ pub fn arguments_fit(set: &Set, k: usize, args: &[Value]) -> bool
 
 /// A frame of method `k` alone, for this object and as many arguments as the method has parameters. Where there is no
 /// such method, or for another count of arguments, the frames stay as they are.
-pub fn open(set: &Set, frames: &mut Frames, k: usize, this: u16, args: &[Value]) -> bool
-    ensures told { result ≡ maybe (method_at (set_program set.now) k) false (λ N. nat_eq (length args.now) (length N.method.params)) }
+pub fn open(set: &Set, frames: &mut Frames, k: usize, this: u16, args: &[Value]) -> Option<()>
+    ensures told { is_some result ≡ maybe (method_at (set_program set.now) k) false (λ N. nat_eq (length args.now) (length N.method.params)) }
     ensures opened { (N : Owned) → method_at (set_program set.now) k ≡ Some N → length args.now ≡ length N.method.params → frames_of frames.new ≡ opened N k this args.now ∷ [] }
-    ensures kept { result ≡ false → frames_of frames.new ≡ frames_of frames.old }
+    ensures kept { result ≡ None → frames_of frames.new ≡ frames_of frames.old }
 {
-    let tables = tables_of(set);
-    let Some(method) = tables.method(k) else {
-        return false;
-    };
+    let program = Program::of(set);
+    let method = program.tables.method(k)?;
     if args.len() != method.params.count {
-        return false;
+        return None;
     }
     frames.open_first(k, this, args, method.extras as usize);
-    true
+    Some(())
 }

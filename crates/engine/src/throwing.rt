@@ -3,10 +3,8 @@ ghost use Rattle.std.specs.Prelude.{◌≡◌, ◌+◌, ◌<◌, true, length, t
 ghost use Rattle.stack.specs.Stacked.{held};
 ghost use Rattle.heap.specs.Meaning.{Meaning};
 ghost use Rattle.jinja.specs.Step.{unwind};
-ghost use Rattle.tables.specs.Views.{program_of};
-ghost use Rattle.tables.specs.Methods.{Whole};
-ghost use Rattle.engine.specs.Limits.{cell_limit, Fitting};
-ghost use Rattle.engine.specs.Views.{frame_of, lowest_frames, frames_of};
+ghost use Rattle.engine.specs.Limits.{cell_limit};
+ghost use Rattle.engine.specs.Views.{frame_of, lowest_frames, frames_of, meaning_of};
 ghost use Rattle.engine.specs.Catching.{Lands, LandsAt, Landed};
 ghost use Rattle.engine.specs.Stepping.{settle};
 
@@ -14,20 +12,18 @@ use crate::catching::find;
 use crate::frame::Frame;
 use crate::frames::Frames;
 use crate::next::Next;
+use crate::program::Program;
 use heap::value::Value;
 use jinja::program::{ClassNumber, Handler};
-use tables::tables::Tables;
 
 // The object at `a`, of class `c`, is thrown in the top frame.
-pub(crate) fn unwind(tables: &Tables, frames: &mut Frames, a: u16, c: ClassNumber) -> Option<Next>
-    requires whole { Whole tables.now }
-    requires fitting { Fitting (program_of tables.now) }
-    ensures { (h : Meaning) → (result, h, frames_of frames.new) ≡ settle h (frames_of frames.old) (unwind (program_of tables.now) h a c (frames_of frames.old)) }
+pub(crate) fn unwind(program: Program, frames: &mut Frames, a: u16, c: ClassNumber) -> Option<Next>
+    ensures { (h : Meaning) → (result, h, frames_of frames.new) ≡ settle h (frames_of frames.old) (unwind (meaning_of program.entry) h a c (frames_of frames.old)) }
 {
-    let Some((k, handler)) = find(tables, &frames.frames, frames.count, c)? else {
+    let Some((k, handler)) = find(program, &frames.frames, frames.count, c)? else {
         return Some(Next::Threw(a));
     };
-    if !lands_at(tables, &frames.frames, k, handler) {
+    if !lands_at(program, &frames.frames, k, handler) {
         return None;
     }
     land_at(&mut frames.frames, k, handler, a);
@@ -36,14 +32,12 @@ pub(crate) fn unwind(tables: &Tables, frames: &mut Frames, a: u16, c: ClassNumbe
 }
 
 // Whether the frame at `k` can use its handler.
-fn lands_at(tables: &Tables, frames: &[Frame], k: usize, handler: Handler) -> bool
-    requires whole { Whole tables.now }
-    requires fitting { Fitting (program_of tables.now) }
+fn lands_at(program: Program, frames: &[Frame], k: usize, handler: Handler) -> bool
     requires within { k < length frames.now }
-    ensures lands { LandsAt (program_of tables.now) handler frames.now k result }
+    ensures lands { LandsAt (meaning_of program.entry) handler frames.now k result }
     ensures low { result ≡ true → handler.depth < cell_limit }
 {
-    lands(tables, &frames[k], handler)
+    lands(program, &frames[k], handler)
 }
 
 // The frame at `k` goes on at the handler's target, with its lowest cells and the object.
@@ -61,13 +55,11 @@ fn land_at(frames: &mut [Frame], k: usize, handler: Handler, a: u16)
 }
 
 // Whether a handler of the frame can be used: its cells are there, and there is room for the object and a target.
-pub(crate) fn lands(tables: &Tables, frame: &Frame, handler: Handler) -> bool
-    requires whole { Whole tables.now }
-    requires fitting { Fitting (program_of tables.now) }
-    ensures lands { Lands (program_of tables.now) handler (frame_of frame.now) (held frame.now.cells handler.depth) result }
+pub(crate) fn lands(program: Program, frame: &Frame, handler: Handler) -> bool
+    ensures lands { Lands (meaning_of program.entry) handler (frame_of frame.now) (held frame.now.cells handler.depth) result }
     ensures low { result ≡ true → handler.depth < cell_limit }
 {
-    let Some(method) = tables.method(frame.method) else {
+    let Some(method) = program.tables.method(frame.method) else {
         return false;
     };
     let depth = handler.depth as usize;
@@ -77,5 +69,5 @@ pub(crate) fn lands(tables: &Tables, frame: &Frame, handler: Handler) -> bool
     if depth >= method.height as usize {
         return false;
     }
-    (handler.target as usize) < tables.code_of(frame.method).len()
+    (handler.target as usize) < program.tables.code_of(frame.method).len()
 }

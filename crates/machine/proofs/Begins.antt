@@ -1,11 +1,12 @@
 -- A begin, by what it finds. Assumes nothing.
-use Rattle.std.proofs.Common.{◌≡◌, ℕ, true, false, List, [], ◌∷◌, length, Some, None, Ok, Err, Result, sym, subst}
+use Rattle.std.proofs.Common.{◌≡◌, ℕ, true, false, List, [], ◌∷◌, length, Some, None, Ok, Err, Result, sym, refl, subst}
 use Rattle.heap.specs.declared.value.Value.{Value}
 use Rattle.heap.specs.Meaning.{Meaning}
 use Rattle.heap.specs.Calls.{after_empty}
 use Rattle.format.proofs.WellFormed.{kept_is_well_formed}
 use Rattle.jinja.specs.declared.ty.Ty.{Ty}
-use Rattle.jinja.specs.declared.answer.Phase.TheVariants.{Idle, Running}
+use Rattle.jinja.specs.declared.answer.Phase.{Phase}
+use Rattle.jinja.specs.declared.answer.Phase.TheVariants.{Idle, Running, Finished, Uncaught}
 use Rattle.jinja.specs.declared.answer.Outcome.TheVariants.{Nothing}
 use Rattle.jinja.specs.declared.answer.Refusal.{Refusal}
 use Rattle.jinja.specs.declared.answer.Refusal.TheVariants as refusal
@@ -14,7 +15,7 @@ use Rattle.jinja.specs.Lookups.{Owned, method_at, sees}
 use Rattle.jinja.specs.Values.{fit_all}
 use Rattle.jinja.specs.State.{State}
 use Rattle.jinja.specs.Step.{Frame, opened}
-use Rattle.jinja.specs.Calls.{begin, first_objects, this_at}
+use Rattle.jinja.specs.Calls.{begin, begin_in, first_objects, this_at}
 use Rattle.jinja.proofs.Inheritance.{inheritance}
 use Rattle.jinja.proofs.Pairwise.{pairs_length}
 use Rattle.jinja.proofs.Values.{fit_all_found}
@@ -33,6 +34,16 @@ found S t c m k e h =
 -- arguments that fit are as many as the parameters
 pub fit_length : (S : Set) (h : Meaning) (vs : List Value) (ts : List Ty) → fit_all (set_program S) (after_empty h) vs ts ≡ true → length vs ≡ length ts
 fit_length S h vs ts e = pairs_length (fit_all_found (kept_is_well_formed (set_program S) S.kept) (after_empty h) vs ts e)
+
+-- a machine that is not idle
+pub begin_busy : (P : Program) (c m : ℕ) (args : List Value) (s : State) → (s.phase ≡ Idle → ⊥) → (Err refusal.Busy, s) ≡ begin P c m args s
+begin_busy P c m args s n = go s.phase n
+  where
+    go : (p : Phase) → (p ≡ Idle → ⊥) → (Err refusal.Busy, s) ≡ begin_in P p c m args s
+    go Idle n = absurd (n refl)
+    go Running n = refl
+    go Finished n = refl
+    go Uncaught n = refl
 
 -- the state with another heap, and the state of a run that begins
 abbrev with_heap : State → Meaning → State

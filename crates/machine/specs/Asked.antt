@@ -2,6 +2,8 @@
 use Rattle.std.specs.Prelude.{◌≡◌, ℕ, List, map, Ok, Err, Result}
 use Rattle.jinja.specs.declared.answer.Refusal.{Refusal}
 use Rattle.jinja.specs.declared.answer.Ended.{Ended}
+use Rattle.jinja.specs.declared.answer.Reply.{Reply}
+use Rattle.jinja.specs.declared.answer.Reply.TheVariants.{Refused}
 use Rattle.jinja.specs.Calls.{Call as Asked, begins, steps, runs, ends}
 use Rattle.machine.specs.declared.call.Call.{Call}
 use Rattle.machine.specs.declared.call.Call.TheVariants.{Begin, Step, Run, End}
@@ -21,6 +23,11 @@ told (Err e) = Err e.0
 abbrev pub HandedBack : Ticket → Result Ended (Refusal × Ticket) → Type 0
 HandedBack t (Ok e) = Unit {0}
 HandedBack t (Err e) = e.1 ≡ t
+
+-- a refusal is an answer too
+abbrev pub said : Result Reply Refusal → Reply
+said (Ok r) = r
+said (Err e) = Refused e
 
 abbrev pub asked : Call → Asked
 asked (Begin c m args) = begins c m args.now

@@ -1,7 +1,8 @@
 // The begin of a run.
-ghost use Rattle.std.specs.Prelude.{◌≡◌, Some, None, MatchBool, MatchOption};
+ghost use Rattle.std.specs.Prelude.{◌≡◌, Some, None, MatchOption, MatchResult};
 ghost use Rattle.heap.specs.Calls.{after_empty};
 ghost use Rattle.set.specs.Sets.{set_program};
+ghost use Rattle.jinja.specs.declared.answer.Refusal.TheVariants.{NoSpace};
 ghost use Rattle.jinja.specs.Calls.{begin, first_objects};
 ghost use Rattle.machine.specs.States.{program, state};
 ghost use Rattle.machine.specs.Asked.{numbered};
@@ -12,15 +13,9 @@ use engine::start::{arguments_fit, new_object, open};
 use heap::store::Heap;
 use heap::value::Value;
 use jinja::answer::{Outcome, Phase, Refusal};
-use jinja::program::{ClassNumber, Name};
+use jinja::program::{CLASS_CAST, ClassNumber, NULL_POINTER, Name, OUT_OF_MEMORY};
 use set::set::Set;
 
-/// The classes of the exception objects.
-const NULL_POINTER: ClassNumber = 1;
-
-const CLASS_CAST: ClassNumber = 2;
-
-const OUT_OF_MEMORY: ClassNumber = 3;
 /// Where begin puts this object.
 const THIS_AT: u16 = 3;
 
@@ -38,22 +33,15 @@ impl<H: Heap> Machine<H> {
         ensures state { (numbered result, state H.Heap.meaning self.new) ≡ begin (program self.old) class name args.now (state H.Heap.meaning self.old) }
         ensures program { program self.new ≡ program self.old }
     {
-        match self.phase {
-            Phase::Idle => {}
-            Phase::Running => return Err(Refusal::Busy),
-            Phase::Finished => return Err(Refusal::Busy),
-            Phase::Uncaught => return Err(Refusal::Busy),
-        }
-        let set = self.accepted.set();
-        let Some(k) = set.tables().sees(class, name) else {
-            return Err(Refusal::Unseen);
+        let Phase::Idle = self.phase else {
+            return Err(Refusal::Busy);
         };
+        let set = self.accepted.set();
+        let k = set.tables().sees(class, name).ok_or(Refusal::Unseen)?;
         if !arguments_fit(set, k, args) {
             return Err(Refusal::Argument);
         }
-        if !first_objects(set, &mut self.heap, class) {
-            return Err(Refusal::NoSpace);
-        }
+        first_objects(set, &mut self.heap, class)?;
         open(set, &mut self.frames, k, THIS_AT, args);
         self.phase = Phase::Running;
         self.steps = 0;
@@ -65,15 +53,15 @@ impl<H: Heap> Machine<H> {
 }
 
 // Empties the heap and adds the exception objects and this object; where one is refused, the heap is left empty.
-fn first_objects<H: Heap>(set: &Set, heap: &mut H, class: ClassNumber) -> bool
-    ensures { MatchBool result (first_objects (set_program set.now) (after_empty (H.Heap.meaning heap.old)) class ≡ Some (H.Heap.meaning heap.new)) ((first_objects (set_program set.now) (after_empty (H.Heap.meaning heap.old)) class ≡ None) × (H.Heap.meaning heap.new ≡ after_empty (H.Heap.meaning heap.old))) }
+fn first_objects<H: Heap>(set: &Set, heap: &mut H, class: ClassNumber) -> Result<(), Refusal>
+    ensures { MatchResult result (λ _. first_objects (set_program set.now) (after_empty (H.Heap.meaning heap.old)) class ≡ Some (H.Heap.meaning heap.new)) (λ e. (e ≡ NoSpace) × (first_objects (set_program set.now) (after_empty (H.Heap.meaning heap.old)) class ≡ None) × (H.Heap.meaning heap.new ≡ after_empty (H.Heap.meaning heap.old))) }
 {
     heap.empty(); // the objects of the last run go
-    if add_first(set, heap, class).is_some() {
-        return true;
+    if add_first(set, heap, class).is_none() {
+        heap.empty();
+        return Err(Refusal::NoSpace);
     }
-    heap.empty();
-    false
+    Ok(())
 }
 
 // Adds the exception objects and this object, as far as the heap takes them.

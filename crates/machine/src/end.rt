@@ -18,11 +18,8 @@ impl<H: Heap> Machine<H> {
         ensures ticket { HandedBack ticket result }
         ensures program { program self.new ≡ program self.old }
     {
-        match self.phase {
-            Phase::Idle => return Err((Refusal::Idle, ticket)),
-            Phase::Running => {}
-            Phase::Finished => {}
-            Phase::Uncaught => {}
+        if let Phase::Idle = self.phase {
+            return Err((Refusal::Idle, ticket));
         }
         let Ticket { machine } = ticket;
         if machine != self.number {

@@ -27,8 +27,8 @@ pub fn history<H: Heap>(
         return Err(Short { heap });
     }
     let mut machine = Machine::make(accepted, heap, number);
-    for i in 0..calls.len() {
-        replies[i] = machine.perform(calls[i]);
+    for (i, call) in calls.iter().enumerate() {
+        replies[i] = machine.perform(*call);
     }
     Ok(machine)
 }

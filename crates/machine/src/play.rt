@@ -23,17 +23,13 @@ impl<H: Heap> Machine<H> {
         ensures state { (result, state H.Heap.meaning self.new) ≡ play (program self.old) class name args.now n (state H.Heap.meaning self.old) }
         ensures program { program self.new ≡ program self.old }
     {
-        match self.begin(class, name, args) {
-            Err(refusal) => Err(refusal),
-            Ok(ticket) => {
-                let ran = self.go(n);
-                match self.end(ticket) {
-                    Ok(ended) => Ok(Played { ran, ended }),
-                    Err((_, ticket)) => {
-                        let Ticket { machine: _ } = ticket;
-                        unreachable()
-                    }
-                }
+        let ticket = self.begin(class, name, args)?;
+        let ran = self.go(n);
+        match self.end(ticket) {
+            Ok(ended) => Ok(Played { ran, ended }),
+            Err((_, ticket)) => {
+                let Ticket { machine: _ } = ticket;
+                unreachable()
             }
         }
     }

@@ -1,9 +1,10 @@
 // Steps, alone and in a run.
-ghost use Rattle.std.specs.Prelude.{◌≡◌};
+ghost use Rattle.std.specs.Prelude.{◌≡◌, ◌≢◌, MatchResult};
 ghost use Rattle.jinja.specs.State as states;
 ghost use Rattle.jinja.specs.Step.{next_step};
 ghost use Rattle.jinja.specs.declared.answer.Answer.TheVariants as answers;
 ghost use Rattle.jinja.specs.declared.answer.Phase.TheVariants as phases;
+ghost use Rattle.jinja.specs.declared.answer.Refusal.TheVariants as refusals;
 ghost use Rattle.jinja.specs.Calls.{step_call, run_call};
 ghost use Rattle.machine.specs.States.{program, state};
 
@@ -20,12 +21,8 @@ impl<H: Heap> Machine<H> {
         ensures state { (result, state H.Heap.meaning self.new) ≡ step_call (program self.old) (state H.Heap.meaning self.old) }
         ensures program { program self.new ≡ program self.old }
     {
-        match self.phase {
-            Phase::Idle => Err(Refusal::Idle),
-            Phase::Running => Ok(self.act()),
-            Phase::Finished => Ok(self.act()),
-            Phase::Uncaught => Ok(self.act()),
-        }
+        self.awake()?;
+        Ok(self.act())
     }
 
     /// Steps until `n` answered 0 or another answer came: how many answered 0, and the last answer (0 where `n` is 0).
@@ -34,11 +31,17 @@ impl<H: Heap> Machine<H> {
         ensures state { (result, state H.Heap.meaning self.new) ≡ run_call (program self.old) n (state H.Heap.meaning self.old) }
         ensures program { program self.new ≡ program self.old }
     {
+        self.awake()?;
+        Ok(self.go(n))
+    }
+
+    // Refused where the machine is idle.
+    fn awake(&self) -> Result<(), Refusal>
+        ensures { MatchResult result (λ _. self.now.phase ≢ phases.Idle) (λ e. (e ≡ refusals.Idle) × (self.now.phase ≡ phases.Idle)) }
+    {
         match self.phase {
             Phase::Idle => Err(Refusal::Idle),
-            Phase::Running => Ok(self.go(n)),
-            Phase::Finished => Ok(self.go(n)),
-            Phase::Uncaught => Ok(self.go(n)),
+            _ => Ok(()),
         }
     }
 

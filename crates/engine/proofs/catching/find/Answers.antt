@@ -9,7 +9,7 @@ use Rattle.engine.proofs.catching.find.Goals as goal
 
 pub returns-in_err-handler : goal.returns-in_err-handler
 returns-in_err-handler c =
-    let P = program_of c.args.tables.now in
+    let P = program_of c.args.program.tables.now in
     let fs = c.args.frames.now in
     let k = c.loop-k.k in
     let d = c.index-frames-k.result in
@@ -20,7 +20,7 @@ returns-in_err-handler c =
 
 pub returns-in-Some : goal.returns-in-Some
 returns-in-Some c =
-    let P = program_of c.args.tables.now in
+    let P = program_of c.args.program.tables.now in
     let fs = c.args.frames.now in
     let k = c.loop-k.k in
     let d = c.index-frames-k.result in
@@ -35,7 +35,7 @@ returns-in-Some c =
 
 pub loop-k-preserved : goal.loop-k-preserved
 loop-k-preserved c h a =
-    let P = program_of c.args.tables.now in
+    let P = program_of c.args.program.tables.now in
     let fs = c.args.frames.now in
     let k = c.loop-k.k in
     let d = c.index-frames-k.result in

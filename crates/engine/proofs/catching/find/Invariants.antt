@@ -6,4 +6,4 @@ use Rattle.engine.specs.Views.{lowest_frames}
 use Rattle.engine.proofs.catching.find.Given as goal
 
 abbrev pub invariant-loop-k : goal.invariant-loop-k
-invariant-loop-k l = (h : Meaning) (a : ℕ) → unwind (program_of l.tables) h a l.c (lowest_frames l.frames l.count) ≡ unwind (program_of l.tables) h a l.c (lowest_frames l.frames l.k)
+invariant-loop-k l = (h : Meaning) (a : ℕ) → unwind (program_of l.program.tables.now) h a l.c (lowest_frames l.frames l.count) ≡ unwind (program_of l.program.tables.now) h a l.c (lowest_frames l.frames l.k)

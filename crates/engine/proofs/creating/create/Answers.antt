@@ -8,7 +8,7 @@ use Rattle.engine.proofs.creating.create.Goals as goal
 
 pub returns-in-Some : goal.returns-in-Some
 returns-in-Some g c M e =
-    let P = program_of c.args.tables.now in
+    let P = program_of c.args.program.tables.now in
     let fs = frames_of c.args.frames.now in
     let n = lowest_length c.args.frames.now.frames c.args.frames.now.count (omega arith) in
     let class : is_class P c.args.c ≡ true = cc in
@@ -17,7 +17,7 @@ returns-in-Some g c M e =
 
 pub returns-in-None : goal.returns-in-None
 returns-in-None g c M e =
-    let P = program_of c.args.tables.now in
+    let P = program_of c.args.program.tables.now in
     let fs = frames_of c.args.frames.now in
     let n = lowest_length c.args.frames.now.frames c.args.frames.now.count (omega arith) in
     let class : is_class P c.args.c ≡ true = cc in

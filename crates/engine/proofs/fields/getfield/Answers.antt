@@ -8,4 +8,4 @@ pub pass_with-requires : goal.pass_with-requires
 pass_with-requires g c =
     let some = nth_below (top_stack (frames_of c.args.frames.now)) 0 (sym c.in_ok-v.ensures) in
     let low = c.height.ensures.low in
-    record { some = c.requires.some; inside = c.requires.inside; high = omega (arith, some); low = omega (arith, some, low) }
+    record { ready = c.requires.ready; high = omega (arith, some); low = omega (arith, some, low) }

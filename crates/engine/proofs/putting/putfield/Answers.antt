@@ -7,4 +7,4 @@ use Rattle.engine.proofs.putting.putfield.Goals as goal
 pub put-requires : goal.put-requires
 put-requires g c =
     let two = nth_below (top_stack (frames_of c.args.frames.now)) 1 (sym c.in_ok-reference.ensures) in
-    record { some = c.requires.some; inside = c.requires.inside; high = omega (arith, two) }
+    record { ready = c.requires.ready; high = omega (arith, two) }

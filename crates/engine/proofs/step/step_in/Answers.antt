@@ -16,43 +16,40 @@ use Rattle.engine.proofs.step.step_in.Goals as goal
 
 pub returns-then-pc-code : goal.returns-then-pc-code
 returns-then-pc-code g c =
-    let t = c.args.tables.now in
+    let t = c.args.program.tables.now in
     let P = program_of t in
     let fs = frames_of c.args.frames.now in
     let m = c.in_ok-method.ensures.spans in
-    let w = found_method (method_at P c.method.result) (c.method-2.ensures.numbered c.requires.whole ∙ m.method) in
+    let w = found_method (method_at P c.method.result) (c.method-2.ensures.numbered c.args.program.whole ∙ m.method) in
     let code = ap length (record_code t m w.0 w.2 ∙ sym c.code_from-code.ensures) in
     rw (next_past P (g.H.Heap.meaning c.args.heap.now) fs (ap (method_at P) (sym c.method.ensures) ∙ w.1) (omega (arith, code)))
 
 pub exec-requires : goal.exec-requires
 exec-requires g c =
-    let t = c.args.tables.now in
+    let t = c.args.program.tables.now in
     let P = program_of t in
     let k = c.method.result in
     let m = c.in_ok-method.ensures.spans in
-    let w = found_method (method_at P k) (c.method-2.ensures.numbered c.requires.whole ∙ m.method) in
+    let w = found_method (method_at P k) (c.method-2.ensures.numbered c.args.program.whole ∙ m.method) in
     let within = m.code.within in
     let code = ap length c.code_from-code.ensures ∙ length_part c.in_ok-method.method.code t.instrs within in
     let all = t.all_instrs in
     let height = ap (λ d. d.height) w.2 in
-    let fit : w.0.method.height ≤ cell_limit = c.requires.fitting.heights k w.0 w.1 in
+    let fit : w.0.method.height ≤ cell_limit = c.args.program.fitting.heights k w.0 w.1 in
     record {
-      whole = c.requires.whole;
-      fitting = c.requires.fitting;
-      some = omega arith;
-      inside = omega (arith, within, code, all);
+      ready = record { some = omega arith; inside = omega (arith, within, code, all) };
       low = omega (arith, height, fit);
     }
 
 pub returns : goal.returns
 returns g c =
-    let t = c.args.tables.now in
+    let t = c.args.program.tables.now in
     let P = program_of t in
     let s = c.args.frames.now in
     let fs = frames_of s in
     let n = lowest_length s.frames s.count (omega arith) in
     let m = c.in_ok-method.ensures.spans in
-    let w = found_method (method_at P c.method.result) (c.method-2.ensures.numbered c.requires.whole ∙ m.method) in
+    let w = found_method (method_at P c.method.result) (c.method-2.ensures.numbered c.args.program.whole ∙ m.method) in
     let is = c.code_from-code.result.now in
     let code = record_code t m w.0 w.2 ∙ sym c.code_from-code.ensures in
     let at = ap (λ l. slice_get l (top_pc fs)) code ∙ ap (slice_get is) (sym c.pc-pc.ensures) ∙ slice_get-get_or is c.pc-pc.result (Load 0) (omega arith) in

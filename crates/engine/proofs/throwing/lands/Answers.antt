@@ -11,9 +11,9 @@ use Rattle.engine.proofs.throwing.lands.Goals as goal
 
 pub returns-then-depth-frame : goal.returns-then-depth-frame
 returns-then-depth-frame c =
-    let P = program_of c.args.tables.now in
+    let P = program_of c.args.program.tables.now in
     let f = c.args.frame.now in
-    let w = found_method (method_at P f.method) (c.method.ensures.numbered c.requires.whole ∙ c.in-Some.ensures.spans.method) in
+    let w = found_method (method_at P f.method) (c.method.ensures.numbered c.args.program.whole ∙ c.in-Some.ensures.spans.method) in
     let l = held_length f.cells f.height (omega arith) in
     record {
       lands = lands_short P (frame_of f) c.args.handler (held f.cells c.args.handler.depth) w.1 (omega (arith, l));
@@ -22,15 +22,15 @@ returns-then-depth-frame c =
 
 pub returns : goal.returns
 returns c =
-    let P = program_of c.args.tables.now in
+    let P = program_of c.args.program.tables.now in
     let f = c.args.frame.now in
     let x = c.args.handler in
     let s = c.in-Some.ensures.spans.method in
-    let w = found_method (method_at P f.method) (c.method.ensures.numbered c.requires.whole ∙ s) in
+    let w = found_method (method_at P f.method) (c.method.ensures.numbered c.args.program.whole ∙ s) in
     let l = held_length f.cells f.height (omega arith) in
     let high = ap (λ m. m.height) w.2 in
     let is = rw s at c.code_of.ensures in
-    let fit : w.0.method.height ≤ cell_limit = c.requires.fitting.heights f.method w.0 w.1 in
+    let fit : w.0.method.height ≤ cell_limit = c.args.program.fitting.heights f.method w.0 w.1 in
     let k = c.if-depth-method.false in
     record {
       lands = lands_by P (frame_of f) x (held f.cells x.depth) w.1 (omega (arith, l)) (omega (arith, high)) (lowest_held f.cells f.height x.depth (omega arith) (omega arith)) _ (rw (is, w.2));

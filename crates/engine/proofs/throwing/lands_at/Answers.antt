@@ -5,6 +5,6 @@ use Rattle.engine.proofs.throwing.lands_at.Goals as goal
 pub returns : goal.returns
 returns c =
     record {
-      lands = lands_read c.args.handler c.args.frames.now c.args.k c.requires.within (program_of c.args.tables.now) c.index-frames-k.result c.lands.result c.index-frames-k.is c.lands.ensures.lands;
+      lands = lands_read c.args.handler c.args.frames.now c.args.k c.requires.within (program_of c.args.program.tables.now) c.index-frames-k.result c.lands.result c.index-frames-k.is c.lands.ensures.lands;
       low = c.lands.ensures.low;
     }

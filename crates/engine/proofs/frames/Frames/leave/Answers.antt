@@ -9,8 +9,7 @@ pass_with-requires c =
     let b = lowest_below s.frames s.count (omega arith) (omega arith) in
     let one : s.count - 2 + 1 ≡ s.count - 1 = omega arith in
     record {
-      some = omega arith;
-      inside = rw one at (waits_inside s.frames (s.count - 2) (s.count - 1) (omega arith) (omega arith) s.waiting);
+      ready = record { some = omega arith; inside = rw one at (waits_inside s.frames (s.count - 2) (s.count - 1) (omega arith) (omega arith) s.waiting) };
       high = rw b at c.requires.high;
       low = rw b at c.requires.low;
     }
