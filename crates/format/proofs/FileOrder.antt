@@ -23,7 +23,7 @@ use Rattle.format.specs.Reading.{Read, then, any_at, at_most}
 use Rattle.format.specs.Parse.{type_at, name_at, boolean_at, literal_at, one, named, jump, instr_at, handler_at, field_at, params_at, result_at, extras_at, method_at, class_at, classes_at, ended, parse}
 use Rattle.format.specs.Laws.{PlacesWithin, FaultsAreFirst, FaultsStay, BeginningsAreCut}
 use Rattle.format.proofs.Lists.{list_at}
-use Rattle.format.proofs.Counting.{ok_same, ok_not_err, err_same}
+use Rattle.format.proofs.Counting.{ok_same, err_same}
 use Rattle.format.proofs.Growing.{From, Goes, gives, refuses, cuts, One, Runs, one_step, checked_one, number_then, step_then, run_ends, rest_gives, rest_refuses, rest_runs, rest_cond, rest_checked, counted_run, any_one, at_most_one}
 use Rattle.format.proofs.RoundTrip.{ended_ok, written_is_read}
 
@@ -139,20 +139,20 @@ module _ (file more : List ℕ) where
 
 -- a fault of the shorter file
 fault_goes : {A : Type 0} {n : ℕ} {x y : Read A} (f : TableFault) → Goes n x y → x ≡ Err f → (table_fault_place f ≤ n) × ((table_fault_number f ≡ 1 → ⊥) → y ≡ Err f)
-fault_goes f (gives l) e = absurd (ok_not_err e)
+fault_goes f (gives l) e = cc
 fault_goes {n = n} f (refuses {f = g} l) e = (subst (λ f. table_fault_place f ≤ n) (err_same e) l, λ _. e)
 fault_goes {n = n} f (cuts {p = p} l short from) e = let s : Number (Cut p) ≡ f = err_same e in (subst (λ f. table_fault_place f ≤ n) s l, λ other. absurd (other (ap table_fault_number (sym s))))
 
 -- what the shorter file gives
 given_goes : {A : Type 0} {n : ℕ} {x y : Read A} (a : A) (q : ℕ) → Goes n x y → x ≡ Ok (a, q) → (q ≤ n) × (y ≡ Ok (a, q))
 given_goes {n = n} a q (gives {a = b} {q = r} l) e = let s = ok_same (b, r) (a, q) e in (subst (λ (z : _ × ℕ). z.1 ≤ n) s l, ap Ok s)
-given_goes a q (refuses l) e = absurd (ok_not_err (sym e))
-given_goes a q (cuts l short from) e = absurd (ok_not_err (sym e))
+given_goes a q (refuses l) e = cc
+given_goes a q (cuts l short from) e = cc
 
 -- a file is refused at a class, or behind its classes
 ended_err : (file : List ℕ) (x : Read Program) (f : TableFault) → ended file x ≡ Err f → (x ≡ Err f) ⊎ ((P : Program) × (q : ℕ) × (x ≡ Ok (P, q)) × (q < length file) × (LeftOver q ≡ f))
 ended_err file (Ok r) f e = elim (cases_Bool (leb (length file) r.1)) [
-  | inl t ↦ absurd (ok_not_err (rw t at e))
+  | inl t ↦ cc (rw t at e)
   | inr t ↦ inr (r.0, r.1, refl, leb-false _ _ t, err_same {A = Program} (rw t at e))
 ]
 ended_err file (Err g) f e = inl (ap Err (err_same e))
@@ -227,10 +227,10 @@ cut_off file more P some e = go (parse file) refl
         let w = ended_ok file (all_classes file) Q h in
         let v = given_goes Q w.0 (classes_go file more) w.1 in
         let over = left_over (file ++ more) Q w.0 (omega (arith, v.0, length-append file more)) in
-        absurd (ok_not_err (sym e ∙ (ap (ended (file ++ more)) v.1 ∙ over)))
+        cc (ap (ended (file ++ more)) v.1, over)
     go (Err f) h = elim (cases_eq (table_fault_number f) 1) [
       | inl one ↦ (let w = one_is_cut f one in (w.0, ap Err w.1))
-      | inr other ↦ absurd (ok_not_err (sym e ∙ faults_stay file more f h other))
+      | inr other ↦ cc (faults_stay file more f h other)
     ]
 
 pub beginnings_are_cut : BeginningsAreCut

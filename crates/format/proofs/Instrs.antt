@@ -1,5 +1,5 @@
 -- Literals and instructions in a file: each shape of operands once, over the constructor.
-use Rattle.std.proofs.Common.{◌≡◌, ℕ, ◌<◌, Bool, true, false, cond, ◌&&◌, eqb, leb, List, ◌++◌, ℤ, Ok, sym, refl, ap, inl, inr, arith}
+use Rattle.std.proofs.Common.{◌≡◌, ℕ, ◌<◌, Bool, true, false, cond, ◌&&◌, eqb, leb, List, ◌++◌, ℤ, Ok, refl, ap, inl, inr, arith}
 use Rattle.std.proofs.lemmas.Bool.{cases_eq, eq-eqb, ne_eqb, lt-ltb, ltb-true, and_parts, and_from}
 use Rattle.number.specs.Laws.{AllBytes}
 use Rattle.number.specs.Numbers.{number_limit, bytes}
@@ -14,7 +14,6 @@ use Rattle.format.specs.Encode.{literal_bytes, instr_bytes}
 use Rattle.format.specs.Rules.{literal_keeps, instr_keeps}
 use Rattle.format.specs.Reading.{Read, then, any_at, at_most}
 use Rattle.format.specs.Parse.{boolean_at, literal_of, literal_at, one, named, jump, operands_of, instr_at}
-use Rattle.format.proofs.Counting.{ok_not_err}
 use Rattle.format.proofs.Steps.{Stands, given, both, split, then_ok, then_by, then_from}
 use Rattle.format.proofs.Numbers.{any_reads, at_most_reads, any_wrote, at_most_wrote}
 
@@ -91,7 +90,7 @@ module _ (file : List ℕ) (small : AllBytes file) where
       let Boolean_wrote : Bool → ℕ → Type 0 = λ b q. LiteralWrote p (Boolean b) q in
       choose w.0 0 w.3 (λ k e. given Boolean_wrote false b w.1 q e (refl, at 0 k)) (λ h.
       choose w.0 1 h (λ k e. given Boolean_wrote true b w.1 q e (refl, at 1 k)) (λ h.
-      absurd (ok_not_err (sym h))))
+      cc))
 
   integer_wrote : (p r q n : ℕ) → Stands file p r (bytes 3) → any_at file r ≡ Ok (n, q) → LiteralWrote p (Integer (signed n)) q
   integer_wrote p r q n s h =
@@ -109,7 +108,7 @@ module _ (file : List ℕ) (small : AllBytes file) where
       choose w.0 1 h (λ k e. given (LiteralWrote p) Null v r q e (refl, at 1 k)) (λ h.
       choose w.0 2 h (λ k e. then_by (boolean_at file r) _ v q e (λ b t f g. given (LiteralWrote p) (Boolean b) v t q g (boolean_wrote p r t b (at 2 k) f))) (λ h.
       choose w.0 3 h (λ k e. then_by (any_at file r) _ v q e (λ n t f g. given (LiteralWrote p) (Integer (signed n)) v t q g (integer_wrote p r t n (at 3 k) f))) (λ h.
-      absurd (ok_not_err (sym h))))))
+      cc))))
 
   -- what was read behind an instruction's kind at p
   one_wrote : (make : ℕ → Instr) (p r q : ℕ) (i : Instr) → ((n t : ℕ) → leb n max_operand ≡ true → Stands file r t (bytes n) → Wrote p (make n) t) → one file make r ≡ Ok (i, q) → Wrote p i q
@@ -155,4 +154,4 @@ module _ (file : List ℕ) (small : AllBytes file) where
       choose w.0 12 h (λ k. jump_wrote IfFalse p r q i (λ z t l u. (l, lead 12 t (bytes (unsigned z)) k u))) (λ h.
       choose w.0 13 h (λ k. jump_wrote Goto p r q i (λ z t l u. (l, lead 13 t (bytes (unsigned z)) k u))) (λ h.
       choose w.0 14 h (λ k e. given (Wrote p) Throw i r q e (refl, at 14 k)) (λ h.
-      absurd (ok_not_err (sym h)))))))))))))))))
+      cc)))))))))))))))

@@ -14,12 +14,11 @@ use Rattle.format.specs.Encode.{type_bytes}
 use Rattle.format.specs.Reading.{lifted, any_at, at_most}
 use Rattle.format.specs.Rules.{unused}
 use Rattle.format.specs.Parse.{type_at, name_at}
-use Rattle.format.proofs.Counting.{ok_not_err}
 use Rattle.format.proofs.Steps.{Stands, given, then_ok, then_from, checked_ok, checked_from}
 
 lifted_ok : {A : Type 0} (x : Result A NumberFault) (a : A) → lifted x ≡ Ok a → x ≡ Ok a
 lifted_ok (Ok r) a e = cc
-lifted_ok (Err f) a e = absurd (ok_not_err (sym e))
+lifted_ok (Err f) a e = cc
 
 number_of_type : (t : Ty) → type_of_number (type_number t) ≡ t
 number_of_type Void = refl

@@ -11,7 +11,7 @@ use Rattle.format.specs.Rules.{class_keeps, keeps}
 use Rattle.format.specs.Reading.{Read, at_most}
 use Rattle.format.specs.Parse.{class_at, classes_at, ended, parse}
 use Rattle.format.specs.Laws.{WrittenIsRead, ReadWasWritten, FilesAreEncodings, OneProgram}
-use Rattle.format.proofs.Counting.{ok_same, ok_not_err}
+use Rattle.format.proofs.Counting.{ok_same}
 use Rattle.format.proofs.Steps.{Stands, both, split, then_by, then_from, counted_reads, counted_wrote}
 use Rattle.format.proofs.Numbers.{at_most_reads, at_most_wrote}
 use Rattle.format.proofs.Kept.{few_before}
@@ -34,9 +34,9 @@ written_is_read P k =
 pub ended_ok : (file : List ℕ) (x : Read Program) (P : Program) → ended file x ≡ Ok P → (q : ℕ) × (x ≡ Ok (P, q)) × (length file ≤ q)
 ended_ok file (Ok r) P e = elim (cases_Bool (leb (length file) r.1)) [
   | inl t ↦ (r.1, ap (λ z. Ok (z, r.1)) (ok_same r.0 P (rw t at e)), leb-true _ _ t)
-  | inr t ↦ absurd (ok_not_err (sym (rw t at e)))
+  | inr t ↦ cc (rw t at e)
 ]
-ended_ok file (Err f) P e = absurd (ok_not_err (sym e))
+ended_ok file (Err f) P e = cc
 
 pub read_was_written : ReadWasWritten
 unfolding parse classes_at encode keeps

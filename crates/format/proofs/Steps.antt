@@ -7,12 +7,12 @@ use Rattle.number.proofs.Law.{behind}
 use Rattle.format.specs.declared.fault.TableFault.{TableFault}
 use Rattle.format.specs.Reading.{Read, then, checked, counted}
 use Rattle.format.specs.Rules.{each_after}
-use Rattle.format.proofs.Counting.{ok_same, ok_not_err}
+use Rattle.format.proofs.Counting.{ok_same}
 
 -- the first of two steps gave a, and the second the answer
 pub then_ok : {A B : Type 0} (x : Read A) (k : A → ℕ → Read B) (b : B) (q : ℕ) → then x k ≡ Ok (b, q) → (a : A) × (r : ℕ) × (x ≡ Ok (a, r)) × (k a r ≡ Ok (b, q))
 then_ok (Ok r) k b q e = (r.0, r.1, refl, e)
-then_ok (Err f) k b q e = absurd (ok_not_err (sym e))
+then_ok (Err f) k b q e = cc
 
 -- the same, for a chain of steps
 pub then_by : {A B G : Type 0} (x : Read A) (k : A → ℕ → Read B) (b : B) (q : ℕ) → then x k ≡ Ok (b, q) → ((a : A) (r : ℕ) → x ≡ Ok (a, r) → k a r ≡ Ok (b, q) → G) → G
@@ -23,7 +23,7 @@ then_from x k a r y e f = ap (λ z. then z k) e ∙ f
 
 pub checked_ok : {A : Type 0} (t : Bool) (f : TableFault) (x : Read A) (a : A × ℕ) → checked t f x ≡ Ok a → (t ≡ true) × (x ≡ Ok a)
 checked_ok true f x a e = (refl, e)
-checked_ok false f x a e = absurd (ok_not_err (sym e))
+checked_ok false f x a e = cc
 
 pub checked_from : {A : Type 0} (t : Bool) (f : TableFault) (x y : Read A) → t ≡ true → x ≡ y → checked t f x ≡ y
 checked_from t f x y e h = ap (λ z. checked z f x) e ∙ h

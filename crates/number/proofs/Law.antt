@@ -1,5 +1,6 @@
 -- What was put is read, and what is read was put.
 use Rattle.std.proofs.Common.{◌≡◌, ℕ, zero, suc, ◌+◌, ◌-◌, ◌*◌, ◌/◌, ◌%◌, ◌^◌, ◌<◌, ◌≤◌, false, ltb, List, [], ◌∷◌, ◌++◌, length, drop, Ok, sym, refl, ap, ◌∙◌, inl, inr, mul_assoc, mul_comm, pow-suc, mul-add, arith}
+use Rattle.std.proofs.Math.Nat.{one-le-pow}
 use Rattle.std.proofs.lemmas.List.{drop_at, drop-drop}
 use Rattle.std.proofs.ByRecursion.{All-drop}
 use Rattle.std.proofs.lemmas.Nat.{div-add-mod', div_below, div-mul-add, mod-mul-add}
@@ -55,10 +56,6 @@ record Behind (g v m at x q : ℕ) (bs : List ℕ) : Type 0 where
   split : bs ≡ bytes_by k n ++ rest
   place : q ≡ at + length (bytes_by k n)
 
-pow_pos_128 : (k : ℕ) → 0 < 128 ^ k
-pow_pos_128 zero = omega arith
-pow_pos_128 (suc k) = omega (arith, pow-suc 128 k, pow_pos_128 k)
-
 -- a group in front
 more : (g v m at x q b : ℕ) (bs : List ℕ) → 128 ≤ b → b < 256 → Behind (g + 1) (v + m * (b - 128)) (m * 128) (at + 1) x q bs → Behind g v m at x q (b ∷ bs)
 more g v m at x q b bs low high w =
@@ -85,7 +82,7 @@ one : (g v m at x q b k : ℕ) (bs : List ℕ) → g + k ≡ 4 → b < 128 → (
 one g v m at x q b zero bs gk l top pos e f = record { k = zero; n = b; rest = bs; turns = gk; small = omega (arith, top (omega arith)); pos = pos; value = e; split = refl; place = f }
 one g v m at x q b (suc k) bs gk l top pos e f =
     let t = lt-ltb b 128 l in
-    record { k = suc k; n = b; rest = bs; turns = gk; small = omega (arith, pow-suc 128 k, pow_pos_128 k); pos = pos; value = e; split = rw t refl; place = rw t f }
+    record { k = suc k; n = b; rest = bs; turns = gk; small = omega (arith, pow-suc 128 k, one-le-pow k 128 (omega arith)); pos = pos; value = e; split = rw t refl; place = rw t f }
 
 wrote : (s g v m at x q : ℕ) (bs : List ℕ) → g ≤ 4 → AllByRecursion (λ b. b < 256) bs → groups s g v m at bs ≡ Ok (x, q) → Behind g v m at x q bs
 wrote s g v m at x q [] h small e = absurd (let z : ◌≡◌ {A = ℕ} 0 1 = cc in omega arith)

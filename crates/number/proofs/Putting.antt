@@ -1,8 +1,9 @@
 -- What a pen did, put together: one call after another, a loop over a list, a dry run and then the other.
-use Rattle.std.proofs.Common.{◌≡◌, ℕ, suc, ◌+◌, ◌-◌, ◌<◌, ◌≤◌, Bool, true, false, cond, List, [], ◌∷◌, ◌++◌, length, get_or, take, drop, set, Ok, Err, Result, sym, refl, ap, ◌∙◌, subst, zero-add, arith}
-use lib.Seq.{sets, length-sets, sets-eq}
+use Rattle.std.proofs.Common.{◌≡◌, ℕ, suc, ◌+◌, ◌-◌, ◌<◌, ◌≤◌, Bool, true, false, cond, List, [], ◌∷◌, ◌++◌, length, get_or, take, drop, set, Ok, Err, Result, sym, refl, ap, ◌∙◌, subst, arith}
+use Rattle.std.proofs.Math.Seq.{sets, length-sets, sets-eq, take-append-add}
+use Rattle.std.proofs.lemmas.Grind.{flat_map-append}
 use Rattle.std.specs.List.{flat_map}
-use Rattle.std.proofs.lemmas.List.{length-append, append_assoc, flat_map_more, take_more, take-append-drop, take-append-le, take_all}
+use Rattle.std.proofs.lemmas.List.{length-append, flat_map_more, take_more, take-append-drop, take-append-le, take_all}
 use Rattle.number.specs.Puts.{State, Put, Full, Puts, Ran, Written}
 
 sets_append : (bs cs l : List ℕ) (i : ℕ) → sets (sets l i bs) (i + length bs) cs ≡ sets l i (bs ++ cs)
@@ -25,15 +26,11 @@ put_length s t bs a = out_length s.dry s.out t.out bs s.place a.out
 dry_same : (s t : State) (bs : List ℕ) → Put s t bs → s.dry ≡ true → t.out ≡ s.out
 dry_same s t bs a d = a.out ∙ ap (λ x. cond x s.out (sets s.out s.place bs)) d
 
-take_past : (bs cs : List ℕ) (k : ℕ) → take (length bs + k) (bs ++ cs) ≡ bs ++ take k cs
-take_past [] cs k = ap (λ n. take n cs) (zero-add k)
-take_past (b ∷ bs) cs k = let e : suc (length bs) + k ≡ suc (length bs + k) = omega arith in rw e (ap (λ l. b ∷ l) (take_past bs cs k))
-
 -- what has room for bs and then for a part of cs
 room_more : (s t : State) (bs cs : List ℕ) → Put s t bs → bs ++ take (length t.out - t.place) cs ≡ take (length s.out - s.place) (bs ++ cs)
 room_more s t bs cs a =
     let e : length s.out - s.place ≡ length bs + (length t.out - t.place) = omega (arith, put_length s t bs a, a.place, a.within) in
-    sym (take_past bs cs (length t.out - t.place)) ∙ ap (λ k. take k (bs ++ cs)) (sym e)
+    sym (take-append-add bs cs (length t.out - t.place)) ∙ ap (λ k. take k (bs ++ cs)) (sym e)
 
 pub put_none : (s : State) → Put s s []
 put_none s = record { place = omega arith; within = omega arith; out = none s.dry s.out; dry = refl; slice = refl }
@@ -81,12 +78,8 @@ puts_more (Err e) s t u bs cs a b = put_full s t u bs cs a b
 pub joined_step : {X : Type 0} (f : X → List ℕ) (xs : List X) (i : ℕ) (d : X) → i < length xs → flat_map f (take i xs) ++ f (get_or xs i d) ≡ flat_map f (take (i + 1) xs)
 joined_step f xs i d h = flat_map_more f [] (take i xs) (get_or xs i d) ∙ ap (flat_map f) (sym (take_more xs i d h))
 
-pub joined_append : {X : Type 0} (f : X → List ℕ) (us bs : List X) → flat_map f (us ++ bs) ≡ flat_map f us ++ flat_map f bs
-joined_append f [] bs = refl
-joined_append f (a ∷ us) bs = ap (λ x. f a ++ x) (joined_append f us bs) ∙ sym (append_assoc (f a) (flat_map f us) (flat_map f bs))
-
 pub joined_split : {X : Type 0} (f : X → List ℕ) (xs : List X) (i : ℕ) → flat_map f (take i xs) ++ flat_map f (drop i xs) ≡ flat_map f xs
-joined_split f xs i = sym (joined_append f (take i xs) (drop i xs)) ∙ ap (flat_map f) (take-append-drop i xs)
+joined_split f xs i = sym (flat_map-append f (take i xs) (drop i xs)) ∙ ap (flat_map f) (take-append-drop i xs)
 
 -- the turns of a loop that puts f x of each x of xs
 module _ {X : Type 0} (f : X → List ℕ) (xs : List X) (i : ℕ) (d : X) where
