@@ -16,6 +16,7 @@ pub fn fill_to_limit<H: Heap>(heap: &mut H, class: u8, row: &[Value]) -> u16
     ensures within { WithinTotals (H.Heap.meaning heap.new) }
 {
     clear(heap);
+    // What was taken is counted, and no place: a chain over calls that change the heap would be no plainer.
     let mut taken = 0;
     while heap.add(class, row).is_ok() {
         taken += 1;

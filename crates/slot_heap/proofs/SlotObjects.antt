@@ -1,6 +1,6 @@
 -- The objects of a slot heap, by its slots.
-use Rattle.std.proofs.Common.{◌≡◌, ℕ, ◌<◌, true, ltb, List, [], ◌∷◌, ◌++◌, map, length, get_or, set, refl, ap, ◌∙◌, zero-mul, arith}
-use Rattle.std.proofs.lemmas.List.{get_or-map, map-set, map_push, length-map}
+use Rattle.std.proofs.Common.{◌≡◌, ℕ, ◌<◌, true, ltb, List, [], ◌∷◌, map, length, get_or, set, refl, ap, ◌∙◌, zero-mul, arith}
+use Rattle.std.proofs.lemmas.List.{get_or-map, map-set, length-map}
 use Rattle.std.proofs.lemmas.List.Sums.{sum_by-cons}
 use Rattle.std.proofs.lemmas.Bool.Decides.{nat_tests}
 use Rattle.heap.specs.declared.value.Value.{Value}
@@ -36,7 +36,3 @@ slots_put ss a i v s t l e c r =
     let o = get_or-map slot_object ss a s no_object l in
     let p : slot_object t ≡ with_field (get_or (map slot_object ss) a no_object) i v = simp (o, e, c, r) in
     map-set slot_object ss a t ∙ ap (set (map slot_object ss) a) p
-
--- one slot more
-pub slots_push : (ss : List Slot) (s : Slot) (o : Object) → slot_object s ≡ o → map slot_object (ss ++ s ∷ []) ≡ map slot_object ss ++ o ∷ []
-slots_push ss s o e = map_push slot_object ss s ∙ ap (λ x. map slot_object ss ++ x ∷ []) e

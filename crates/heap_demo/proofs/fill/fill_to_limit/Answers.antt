@@ -1,4 +1,4 @@
-use Rattle.std.proofs.Common.{sym, ap, ◌∙◌, arith}
+use Rattle.std.proofs.Common.{sym, ap, ◌∙◌}
 use Rattle.heap_demo.specs.Filled.{holding}
 use Rattle.heap_demo.proofs.Fills.{taken, refused}
 use Rattle.heap_demo.proofs.fill.fill_to_limit.Goals as goal
@@ -11,12 +11,6 @@ loop-taken-preserved g c =
     taken m n c.args.class c.args.row.now c.add.result c.add.ensures.answer c.add.ensures.after c.loop-taken.invariant.1 ls c.loop-taken.taken
     (sym c.is_ok.ensures.value ∙ c.loop-taken-test.true)
     c.loop-taken.invariant.0
-
-pub overflow_add-taken : goal.overflow_add-taken
-overflow_add-taken g c = let k = (loop-taken-preserved g c).2 in omega arith
-
-pub loop-taken-smaller : goal.loop-taken-smaller
-loop-taken-smaller g c = let k = (loop-taken-preserved g c).2 in omega arith
 
 pub returns : goal.returns
 returns g c =

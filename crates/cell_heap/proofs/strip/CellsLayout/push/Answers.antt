@@ -8,9 +8,6 @@ use Rattle.cell_heap.proofs.strip.CellsLayout.push.Goals as goal
 pub lay-requires-clause-room : goal.lay-requires-clause-room
 lay-requires-clause-room c = cells_free c.args.self.now (length c.args.row.now) c.requires
 
-pub unwrap-requires : goal.unwrap-requires
-unwrap-requires c = c.push.ensures.room.1 (start_free c.args.self.now (length c.args.row.now) c.requires)
-
 pub invariant_of-self : goal.invariant_of-self
 invariant_of-self c =
     let h = c.args.self.now in
