@@ -2,22 +2,22 @@
 // the writer gives the same bytes. Lines that begin with # are labels. tests/reading_cases.py makes both streams.
 #![tactic(auto)]
 
-use anyhow::anyhow;
+use anyhow::Context;
 use set::reader::read;
 use set::set::Set;
-use std::alloc::Global;
+use std::alloc::{AllocError, Global};
 use writer::write;
 
 fn main(rt: HostRuntime) -> anyhow::Result<()> {
-    let heap = rt.alloc();
+    let alloc = rt.alloc();
     let mut set = Set::empty();
-    for line in rt.lines(heap) {
+    for line in rt.lines(alloc) {
         let line = line?;
         let text = line.as_str();
         if text.starts_with("#") {
             println!(rt; "{text}")?;
         } else {
-            let file = bytes_of(heap, text)?;
+            let file = bytes_of(alloc, text)?;
             answer(&rt, file.as_slice(), &mut set)?;
         }
     }
@@ -26,9 +26,7 @@ fn main(rt: HostRuntime) -> anyhow::Result<()> {
 
 fn answer(rt: &HostRuntime, file: &[u8], set: &mut Set) -> anyhow::Result<()> {
     if let Err(fault) = read(file, set) {
-        let number = fault.number();
-        let place = fault.place();
-        println!(rt; "refused {number} at {place}")?;
+        println!(rt; "refused {} at {}", fault.number(), fault.place())?;
         return Ok(());
     }
     let classes = set.tables().class_count;
@@ -46,32 +44,28 @@ fn answer(rt: &HostRuntime, file: &[u8], set: &mut Set) -> anyhow::Result<()> {
 }
 
 // Whether the writer gives the file again, into an output of exactly its length.
-fn same_again(heap: Global, file: &[u8], set: &Set) -> anyhow::Result<bool> {
-    let mut out = vec![in heap; 0u8; file.len()]?;
-    match write(set, out.as_mut_slice()) {
-        Ok(n) => Ok(n == file.len() && out.as_slice() == file),
-        Err(_) => Ok(false),
-    }
+fn same_again(alloc: Global, file: &[u8], set: &Set) -> Result<bool, AllocError> {
+    let mut out = vec![in alloc; 0u8; file.len()]?;
+    let written = write(set, out.as_mut_slice());
+    Ok(written.is_ok_and(|n| n == file.len() && out.as_slice() == file))
 }
 
-fn bytes_of(heap: Global, text: &str) -> anyhow::Result<Vec<u8>> {
-    let mut bytes = Vec::new(heap);
-    let mut high: Option<u8> = None;
+// The bytes that a line writes; half a byte at its end is left out.
+fn bytes_of(alloc: Global, text: &str) -> anyhow::Result<Vec<u8>> {
+    let mut digits = Vec::new(alloc);
     for b in text.bytes() {
-        let Some(low) = digit(b) else {
-            return Err(anyhow!("no hexadecimal digit"));
-        };
-        match high {
-            None => high = Some(low),
-            Some(h) => {
-                bytes.push(h.wrapping_mul(16) | low)?;
-                high = None;
-            }
-        }
+        digits.push(digit(b).context("no hexadecimal digit")?)?;
     }
-    Ok(bytes)
+    let (pairs, _) = digits.as_slice().as_chunks::<2>();
+    Ok(
+        pairs
+            .iter()
+            .map(|[high, low]| high << 4 | low)
+            .collect(alloc)?,
+    )
 }
 
+// Uppercase digits are none, unlike in the command, with which this program shares no crate.
 fn digit(b: u8) -> Option<u8> {
     match b {
         b'0'..=b'9' => Some(b - b'0'),
