@@ -1,13 +1,17 @@
 // What a shell has at hand: the set last read, the set last accepted, the next heap and the machine.
-use crate::heaps::{HeapShape, heap_named, line_of, under};
-use crate::hex::{bytes_of, print_bytes};
+use crate::faults::Refused;
+use crate::heaps::{Base, HeapShape};
+use crate::hex::{Hex, bytes_of};
+use crate::listing::Counts;
+use crate::lists::write_list;
+use crate::machines::AnyMachine;
 use crate::options::Words;
-use crate::orders::{Order, carry_out};
-use crate::request::method_of;
-use crate::standing::{Standing, made};
+use crate::orders::Order;
+use crate::request::Callee;
+use crate::stop::Stop;
 use set::reader::read;
 use set::set::Set;
-use std::mem;
+use std::fmt;
 use verifier::accepted::Accepted;
 use verifier::least::least_table;
 use verifier::load::load;
@@ -19,7 +23,7 @@ pub struct Desk {
     set: Set,
     accepted: Accepted,
     shape: HeapShape,
-    standing: Standing,
+    machine: Option<AnyMachine>,
 }
 
 impl Desk {
@@ -27,159 +31,93 @@ impl Desk {
         Desk {
             set: Set::empty(),
             accepted: Accepted::empty(),
-            shape: HeapShape::Slot,
-            standing: Standing::Nothing,
+            shape: HeapShape::new(Base::Slot),
+            machine: None,
         }
     }
 
-    /// `heap slot|cell [F P T] [F P T]`: the heap of the next machine; false where the words are others.
-    pub fn choose_heap(&mut self, rt: &HostRuntime, words: &mut Words) -> anyhow::Result<bool> {
-        let Some(shape) = shape_of(words) else {
-            return Ok(false);
-        };
-        self.shape = shape;
+    /// `heap slot|cell [F P T] [F P T]`: the heap of the next machine.
+    pub fn choose_heap(&mut self, rt: &HostRuntime, words: &mut Words) -> Result<(), Stop> {
+        self.shape = HeapShape::parse(words)?;
         println!(rt; "heap ok")?;
-        Ok(true)
+        Ok(())
     }
 
     /// An order to the machine.
-    pub fn carry_out(&mut self, rt: &HostRuntime, order: &Order) -> anyhow::Result<()> {
-        let standing = mem::replace(&mut self.standing, Standing::Nothing);
-        self.standing = carry_out(rt, standing, order)?;
+    pub fn carry_out(&mut self, rt: &HostRuntime, order: &Order) -> Result<(), Stop> {
+        match self.machine.take() {
+            Some(machine) => self.machine = Some(machine.serve(rt, order)?),
+            None => println!(rt; "error: no machine")?,
+        }
         Ok(())
     }
 
     /// `make NUMBER`: another machine, from the accepted set. An open run of the old one goes with it.
-    pub fn make(&mut self, rt: &HostRuntime, words: &mut Words) -> anyhow::Result<bool> {
-        let Some(word) = words.next() else {
-            return Ok(false);
-        };
-        let Ok(number) = word.parse::<u32>() else {
-            return Ok(false);
-        };
-        if !words.is_empty() {
-            return Ok(false);
-        }
-        self.standing = made(self.shape, self.accepted, number);
+    pub fn make(&mut self, rt: &HostRuntime, words: &mut Words) -> Result<(), Stop> {
+        let number = words.parse::<u32>()?;
+        words.end()?;
+        self.machine = Some(AnyMachine::make(self.accepted, self.shape, number));
         println!(rt; "made")?;
-        Ok(true)
+        Ok(())
     }
 
     /// `read HEX`: the current set.
-    pub fn read(&mut self, rt: &HostRuntime, words: &mut Words) -> anyhow::Result<bool> {
-        let Some(file) = bytes_of(rt.alloc(), words.rest())? else {
-            return Ok(false);
-        };
-        match read(file.as_slice(), &mut self.set) {
-            Ok(_) => print_counts(rt, "read", &self.set)?,
-            Err(fault) => {
-                let number = fault.number();
-                let place = fault.place();
-                println!(rt; "refused {number} at {place}")?;
-            }
-        }
-        Ok(true)
+    pub fn read(&mut self, rt: &HostRuntime, words: &mut Words) -> Result<(), Stop> {
+        let file = bytes_of(rt.alloc(), words.all())?;
+        read(file.as_slice(), &mut self.set).map_err(Refused::from)?;
+        println!(rt; "read {}", Counts(self.set.tables()))?;
+        Ok(())
     }
 
     /// `load HEX`: the current set, and the accepted set where it is accepted.
-    pub fn load(&mut self, rt: &HostRuntime, words: &mut Words) -> anyhow::Result<bool> {
-        let Some(file) = bytes_of(rt.alloc(), words.rest())? else {
-            return Ok(false);
-        };
+    pub fn load(&mut self, rt: &HostRuntime, words: &mut Words) -> Result<(), Stop> {
+        let file = bytes_of(rt.alloc(), words.all())?;
         let mut workspace = [0u16; WORKSPACE];
-        match load(
+        load(
             file.as_slice(),
             &mut self.set,
             &mut workspace,
             &mut self.accepted,
-        ) {
-            Ok(_) => print_counts(rt, "accepted", &self.set)?,
-            Err(fault) => {
-                let number = fault.number();
-                let place = fault.place();
-                println!(rt; "refused {number} at {place}")?;
-            }
-        }
-        Ok(true)
+        )
+        .map_err(Refused::File)?;
+        println!(rt; "accepted {}", Counts(self.set.tables()))?;
+        Ok(())
     }
 
     /// `write`: the bytes of the current set.
-    pub fn write(&self, rt: &HostRuntime, words: &mut Words) -> anyhow::Result<bool> {
-        if !words.is_empty() {
-            return Ok(false);
-        }
+    pub fn write(&self, rt: &HostRuntime, words: &mut Words) -> Result<(), Stop> {
+        words.end()?;
         let mut out = vec![in rt.alloc(); 0u8; written_len(&self.set)]?;
-        match write(&self.set, out.as_mut_slice()) {
-            Ok(_) => print_bytes(rt, out.as_slice())?,
-            Err(fault) => {
-                let number = fault.number();
-                println!(rt; "refused {number}")?;
-            }
-        }
-        Ok(true)
+        write(&self.set, out.as_mut_slice()).map_err(Refused::Output)?;
+        println!(rt; "{}", Hex(out.as_slice()))?;
+        Ok(())
     }
 
     /// `table CLASS NAME`: the least table of the method that the class of the accepted set sees.
-    pub fn table(&self, rt: &HostRuntime, words: &mut Words) -> anyhow::Result<bool> {
-        let Some((class, name)) = method_of(words) else {
-            return Ok(false);
-        };
-        if !words.is_empty() {
-            return Ok(false);
-        }
-        let mut workspace = [0u16; WORKSPACE];
-        match least_table(&self.accepted, class, name, &mut workspace) {
-            Ok(_) => {
-                let tables = self.accepted.set().tables();
-                let count = match tables.sees(class, name) {
-                    Some(k) => tables.code_of(k).len(),
-                    None => 0,
-                };
-                print_rows(rt, &workspace, count)?;
-            }
-            Err(fault) => {
-                let number = fault.number();
-                println!(rt; "refused {number}")?;
-            }
-        }
-        Ok(true)
+    pub fn table(&self, rt: &HostRuntime, words: &mut Words) -> Result<(), Stop> {
+        let Callee { class, name } = Callee::parse(words)?;
+        words.end()?;
+        let mut rows = [0u16; WORKSPACE];
+        least_table(&self.accepted, class, name, &mut rows).map_err(Refused::Table)?;
+        let tables = self.accepted.set().tables();
+        let count = tables
+            .sees(class, name)
+            .map_or(0, |k| tables.code_of(k).len());
+        println!(rt; "{}", Rows { rows: &rows, count })?;
+        Ok(())
     }
 }
 
-// A heap by its name, under the allowances that follow, the inner one first.
-fn shape_of(words: &mut Words) -> Option<HeapShape> {
-    let mut shape = heap_named(words.next()?)?;
-    for _ in 0..2 {
-        if words.is_empty() {
-            return Some(shape);
-        }
-        let fixed = words.next()?;
-        let per_field = words.next()?;
-        let total = words.next()?;
-        shape = under(shape, line_of(fixed, per_field, total)?);
-    }
-    if words.is_empty() { Some(shape) } else { None }
+/// The numbers of the first `count` rows.
+#[derive(Drop)]
+struct Rows<'a> {
+    rows: &'a [u16],
+    count: usize,
 }
 
-fn print_counts(rt: &HostRuntime, word: &str, set: &Set) -> anyhow::Result<()> {
-    let classes = set.tables().class_count;
-    let methods = set.tables().method_count;
-    let instructions = set.tables().instr_count;
-    println!(rt; "{word} classes {classes} methods {methods} instructions {instructions}")?;
-    Ok(())
-}
-
-// The numbers of the first `count` rows.
-fn print_rows(rt: &HostRuntime, workspace: &[u16], count: usize) -> anyhow::Result<()> {
-    for (i, number) in workspace
-        .iter()
-        .take(count.saturating_mul(WIDTH))
-        .enumerate()
-    {
-        let space = if i == 0 { "" } else { " " };
-        let number = *number;
-        print!(rt; "{space}{number}")?;
+impl fmt::Display for Rows<'_> {
+    fn fmt<W: fmt::Write>(&self, f: &mut fmt::Formatter<W>) -> fmt::Result {
+        let numbers = self.count.saturating_mul(WIDTH);
+        write_list(f, " ", self.rows.iter().take(numbers).copied())
     }
-    println!(rt; "")?;
-    Ok(())
 }

@@ -1,86 +1,77 @@
-// Refusals and answers as a person reads them: number and name, and where they have one, layer and place.
+// Refusals as a person reads them: number and name, and where they have one, layer and place.
+use crate::names::Named;
 use format::fault::TableFault;
-use jinja::answer::{Answer, Refusal};
-use number::fault::NumberFault;
+use jinja::answer::Refusal;
 use std::fmt;
-use verifier::fault::VerifierFault;
-use verifier::load_fault::{Layer, LoadFault};
+use verifier::fault::{LeastTableFault, VerifierFault};
+use verifier::load_fault::LoadFault;
+use writer::WriteFault;
 
-/// Prints the one line of a refused file.
-pub fn print_refusal(rt: &HostRuntime, fault: TableFault) -> anyhow::Result<()> {
-    print_load_fault(rt, LoadFault::Table(fault))
+/// What is refused, and why. Written in full, with its name.
+#[derive(Clone, Copy)]
+pub enum Refused {
+    /// A file that is no accepted set.
+    File(LoadFault),
+    /// A method whose least table is asked for.
+    Table(LeastTableFault),
+    /// An output that a set is to be written into.
+    Output(WriteFault),
+    /// A call of a machine.
+    Call(Refusal),
 }
 
-/// Prints the one line of a file that is not loaded.
-pub fn print_load_fault(rt: &HostRuntime, fault: LoadFault) -> anyhow::Result<()> {
-    let number = fault.number();
-    let name = name_of(number);
-    let layer = layer_word(fault.layer());
-    let place = fault.place();
-    println!(rt; "refused {number} {name} ({layer}) at {place}")?;
-    Ok(())
-}
+/// A refusal without its name.
+#[derive(Clone, Copy)]
+pub struct Brief(pub Refused);
 
-/// Prints the one line of a refused call.
-pub fn print_refused(rt: &HostRuntime, refusal: Refusal) -> anyhow::Result<()> {
-    print_number(rt, refusal.number())
-}
-
-/// Prints the one line of a refusal that has no place.
-pub fn print_number(rt: &HostRuntime, number: u8) -> anyhow::Result<()> {
-    let name = name_of(number);
-    println!(rt; "refused {number} {name}")?;
-    Ok(())
-}
-
-// The name of each refusal number.
-fn name_of(number: u8) -> &'static str {
-    match number {
-        1 => "cut",
-        2 => "padded",
-        3 => "oversize",
-        4 => "outside",
-        5 => "unknown",
-        6 => "classless",
-        7 => "twice",
-        8 => "override",
-        9 => "left over",
-        10 => "short",
-        11 => "untypable",
-        12 => "busy",
-        13 => "unseen",
-        14 => "argument",
-        15 => "no space",
-        16 => "idle",
-        17 => "ticket",
-        18 => "full",
-        19 => "no object",
-        _ => "unknown number",
+impl From<TableFault> for Refused {
+    fn from(fault: TableFault) -> Refused {
+        Refused::File(fault.into())
     }
 }
 
-fn layer_word(layer: Layer) -> &'static str {
-    match layer {
-        Layer::Numbers => "numbers",
-        Layer::Table => "table",
-        Layer::Verifier => "verifier",
+impl From<VerifierFault> for Refused {
+    fn from(fault: VerifierFault) -> Refused {
+        Refused::File(fault.into())
     }
 }
 
-/// An answer by its number and its name.
-#[derive(Drop)]
-pub struct AnswerWord(pub Answer);
+impl Refused {
+    fn number(self) -> u8 {
+        match self {
+            Refused::File(fault) => fault.number(),
+            Refused::Table(fault) => fault.number(),
+            Refused::Output(fault) => fault.number(),
+            Refused::Call(refusal) => refusal.number(),
+        }
+    }
 
-impl fmt::Display for AnswerWord {
+    fn name(self) -> &'static str {
+        match self {
+            Refused::File(fault) => fault.name(),
+            Refused::Table(fault) => fault.name(),
+            Refused::Output(fault) => fault.name(),
+            Refused::Call(refusal) => refusal.name(),
+        }
+    }
+}
+
+impl fmt::Display for Refused {
     fn fmt<W: fmt::Write>(&self, f: &mut fmt::Formatter<W>) -> fmt::Result {
-        let number = self.0.number();
-        let name = match self.0 {
-            Answer::Stepped => "stepped",
-            Answer::Finished => "finished",
-            Answer::Uncaught => "uncaught",
-            Answer::FramesFull => "frames full",
-            Answer::Unsound => "unsound",
-        };
-        write!(f, "{number} {name}")
+        write!(f, "refused {} {}", self.number(), self.name())?;
+        match self {
+            Refused::File(fault) => write!(f, " ({}) at {}", fault.layer().name(), fault.place()),
+            _ => Ok(()),
+        }
+    }
+}
+
+impl fmt::Display for Brief {
+    fn fmt<W: fmt::Write>(&self, f: &mut fmt::Formatter<W>) -> fmt::Result {
+        write!(f, "refused {}", self.0.number())?;
+        match self.0 {
+            Refused::File(fault) => write!(f, " at {}", fault.place()),
+            _ => Ok(()),
+        }
     }
 }

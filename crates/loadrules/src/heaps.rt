@@ -1,64 +1,101 @@
 // The heap that a machine is made over, as words name it.
+use crate::options::Words;
+use crate::stop::NotUnderstood;
 use heap::charge::ChargeLine;
+use std::str::FromStr;
 
-/// A slot heap or a cell heap, alone or under one or two allowances, the inner one first.
+/// Which heap lies below all allowances.
 #[derive(Clone, Copy)]
-pub enum HeapShape {
+pub enum Base {
     Slot,
-    SlotUnder(ChargeLine),
-    SlotUnderTwo(ChargeLine, ChargeLine),
     Cell,
-    CellUnder(ChargeLine),
-    CellUnderTwo(ChargeLine, ChargeLine),
 }
 
-/// The heap of that name.
-pub fn heap_named(word: &str) -> Option<HeapShape> {
-    match word {
-        "slot" => Some(HeapShape::Slot),
-        "cell" => Some(HeapShape::Cell),
-        _ => None,
+/// The allowances around a heap, the inner one first. No command takes more than two.
+#[derive(Clone, Copy)]
+pub enum Allowances {
+    Without,
+    One(ChargeLine),
+    Two(ChargeLine, ChargeLine),
+}
+
+/// A heap under its allowances.
+#[derive(Clone, Copy)]
+pub struct HeapShape {
+    pub base: Base,
+    pub allowances: Allowances,
+}
+
+/// An allowance's line of three numbers with commas between them.
+#[derive(Clone, Copy)]
+pub struct LineWord(pub ChargeLine);
+
+impl FromStr for Base {
+    type Err = NotUnderstood;
+
+    fn from_str(word: &str) -> Result<Base, NotUnderstood> {
+        match word {
+            "slot" => Ok(Base::Slot),
+            "cell" => Ok(Base::Cell),
+            _ => Err(NotUnderstood),
+        }
     }
 }
 
-/// The same with one allowance more around it. A third is left out: no command takes more than two.
-pub fn under(shape: HeapShape, line: ChargeLine) -> HeapShape {
-    match shape {
-        HeapShape::Slot => HeapShape::SlotUnder(line),
-        HeapShape::SlotUnder(inner) => HeapShape::SlotUnderTwo(inner, line),
-        HeapShape::SlotUnderTwo(_, _) => shape,
-        HeapShape::Cell => HeapShape::CellUnder(line),
-        HeapShape::CellUnder(inner) => HeapShape::CellUnderTwo(inner, line),
-        HeapShape::CellUnderTwo(_, _) => shape,
+impl FromStr for LineWord {
+    type Err = NotUnderstood;
+
+    fn from_str(word: &str) -> Result<LineWord, NotUnderstood> {
+        let (fixed, others) = word.split_once(',').ok_or(NotUnderstood)?;
+        let (per_field, total) = others.split_once(',').ok_or(NotUnderstood)?;
+        Ok(LineWord(line_of(fixed, per_field, total)?))
     }
 }
 
-/// The line of three numbers.
-pub fn line_of(fixed: &str, per_field: &str, total: &str) -> Option<ChargeLine> {
-    let Ok(fixed) = fixed.parse::<u16>() else {
-        return None;
-    };
-    let Ok(per_field) = per_field.parse::<u16>() else {
-        return None;
-    };
-    let Ok(total) = total.parse::<u16>() else {
-        return None;
-    };
-    Some(ChargeLine {
-        fixed,
-        per_field,
-        total,
+// The line of three numbers.
+fn line_of(fixed: &str, per_field: &str, total: &str) -> Result<ChargeLine, NotUnderstood> {
+    Ok(ChargeLine {
+        fixed: fixed.parse::<u16>()?,
+        per_field: per_field.parse::<u16>()?,
+        total: total.parse::<u16>()?,
     })
 }
 
-/// The line of three numbers with commas between them.
-pub fn line_with_commas(word: &str) -> Option<ChargeLine> {
-    let mut parts = word.split(',');
-    let fixed = parts.next()?;
-    let per_field = parts.next()?;
-    let total = parts.next()?;
-    match parts.next() {
-        Some(_) => None,
-        None => line_of(fixed, per_field, total),
+impl Allowances {
+    // One allowance more, around those that stand.
+    fn and(self, line: ChargeLine) -> Result<Allowances, NotUnderstood> {
+        match self {
+            Allowances::Without => Ok(Allowances::One(line)),
+            Allowances::One(inner) => Ok(Allowances::Two(inner, line)),
+            Allowances::Two(_, _) => Err(NotUnderstood),
+        }
+    }
+}
+
+impl HeapShape {
+    /// A heap under no allowance.
+    pub fn new(base: Base) -> HeapShape {
+        HeapShape {
+            base,
+            allowances: Allowances::Without,
+        }
+    }
+
+    /// `slot|cell [F P T] [F P T]`, and nothing behind it.
+    pub fn parse(words: &mut Words) -> Result<HeapShape, NotUnderstood> {
+        let mut shape = HeapShape::new(words.parse::<Base>()?);
+        for _ in 0..2 {
+            if let Some(fixed) = words.next() {
+                shape.put_under(line_of(fixed, words.text()?, words.text()?)?)?;
+            }
+        }
+        words.end()?;
+        Ok(shape)
+    }
+
+    /// Puts the heap under one allowance more.
+    pub fn put_under(&mut self, line: ChargeLine) -> Result<(), NotUnderstood> {
+        self.allowances = self.allowances.and(line)?;
+        Ok(())
     }
 }

@@ -9,12 +9,17 @@ mod heaps;
 mod hex;
 mod list;
 mod listing;
+mod lists;
+mod look;
+mod machines;
+mod names;
 mod options;
 mod orders;
+mod replies;
 mod request;
 mod run;
 mod shell;
-mod standing;
+mod stop;
 mod table;
 mod values;
 mod words;
@@ -25,42 +30,43 @@ use list::list_file;
 use options::Words;
 use run::run_file;
 use shell::shell;
-use std::env;
 use std::process::ExitCode;
+use std::{env, io};
+use stop::Stop;
 use table::table_file;
 
 fn main(rt: HostRuntime) -> anyhow::Result<ExitCode> {
-    if command(&rt)? {
-        Ok(ExitCode::SUCCESS)
-    } else {
-        Ok(ExitCode::FAILURE)
+    match command(&rt) {
+        Ok(()) => Ok(ExitCode::SUCCESS),
+        Err(Stop::NotUnderstood) => {
+            usage(&rt)?;
+            Ok(ExitCode::SUCCESS)
+        }
+        Err(Stop::Refused(refused)) => {
+            println!(rt; "{refused}")?;
+            Ok(ExitCode::FAILURE)
+        }
+        Err(Stop::Failed(e)) => Err(e),
     }
 }
 
-// Runs the command that the arguments name; false where it refuses, and has said so.
-fn command(rt: &HostRuntime) -> anyhow::Result<bool> {
-    let mut given = Vec::new(rt.alloc());
-    for word in env::args(rt)? {
-        given.push(word)?;
-    }
+// Runs the command that the arguments name.
+fn command(rt: &HostRuntime) -> Result<(), Stop> {
+    let given = env::args(rt)?.collect::<Vec<String>>(rt.alloc())?;
     let mut words = Words::new(given.as_slice());
     let _ = words.next();
-    let known = match words.next() {
-        Some("list") => list_file(rt, &mut words)?,
-        Some("check") => check_file(rt, &mut words)?,
-        Some("table") => table_file(rt, &mut words)?,
-        Some("run") => run_file(rt, &mut words)?,
-        Some("shell") => shell(rt, &mut words)?,
-        Some("bench") => bench(rt, &mut words)?,
-        _ => None,
-    };
-    match known {
-        Some(accepted) => Ok(accepted),
-        None => usage(rt),
+    match words.text()? {
+        "list" => list_file(rt, &mut words),
+        "check" => check_file(rt, &mut words),
+        "table" => table_file(rt, &mut words),
+        "run" => run_file(rt, &mut words),
+        "shell" => shell(rt, &mut words),
+        "bench" => bench(rt, &mut words),
+        _ => Err(Stop::NotUnderstood),
     }
 }
 
-fn usage(rt: &HostRuntime) -> anyhow::Result<bool> {
+fn usage(rt: &HostRuntime) -> io::Result<()> {
     println!(rt; "usage: loadrules COMMAND")?;
     println!(rt; "  list FILE               classes, methods and instructions of a rule-set file")?;
     println!(rt; "  check FILE              whether every method has a well-typing")?;
@@ -77,6 +83,5 @@ fn usage(rt: &HostRuntime) -> anyhow::Result<bool> {
     println!(rt;
         "  bench run FILE CLASS NAME STEPS [VALUE...] [--heap ..] [--allowance ..]... [--again]"
     )?;
-    println!(rt; "  bench verify FILE N | bench read FILE N")?;
-    Ok(true)
+    println!(rt; "  bench verify FILE N | bench read FILE N")
 }

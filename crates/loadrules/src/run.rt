@@ -1,126 +1,94 @@
 // `loadrules run FILE CLASS NAME ..`: loads a file, and runs the method that the class sees from begin to end.
-use crate::check::{load_file, print_counts};
-use crate::faults::{AnswerWord, print_refused};
-use crate::heaps::HeapShape;
+use crate::check::load_file;
+use crate::faults::Refused;
+use crate::listing::Counts;
+use crate::look::{MOST_LINES, use_at};
+use crate::machines::{AnyMachine, Job};
+use crate::names::Named;
 use crate::options::Words;
-use crate::request::{Request, method_of, request_of};
+use crate::request::{Callee, Request};
+use crate::stop::Stop;
 use crate::values::ValueWord;
 use crate::words::ClassWord;
-use cell_heap::CellHeap;
-use heap::allowance::Allowance;
 use heap::store::Heap;
-use heap::usage::used;
-use jinja::answer::{Ended, Outcome, Phase};
+use jinja::answer::{Answer, Ended, Outcome};
 use machine::machine::Machine;
-use slot_heap::SlotHeap;
-use verifier::accepted::Accepted;
+use std::fmt;
 
 /// The number of the one machine of a run.
 const MACHINE: u32 = 0;
-/// More lines than any pile here has.
-const MOST_LINES: usize = 4;
 
-/// Runs what the words ask for; nothing where they are others.
-pub fn run_file(rt: &HostRuntime, words: &mut Words) -> anyhow::Result<Option<bool>> {
-    let Some(path) = words.next() else {
-        return Ok(None);
-    };
-    let Some(method) = method_of(words) else {
-        return Ok(None);
-    };
-    let Some(request) = request_of(rt.alloc(), words, method, u64::MAX)? else {
-        return Ok(None);
-    };
-    let mut accepted = Accepted::empty();
-    if !load_file(rt, path, &mut accepted)? {
-        return Ok(Some(false));
-    }
-    print_counts(rt, &accepted)?;
-    Ok(Some(run_shaped(rt, accepted, &request)?))
+/// Runs what the words ask for.
+pub fn run_file(rt: &HostRuntime, words: &mut Words) -> Result<(), Stop> {
+    let path = words.text()?;
+    let callee = Callee::parse(words)?;
+    let request = Request::parse(rt.alloc(), words, callee, u64::MAX)?;
+    let accepted = load_file(rt, path)?;
+    println!(rt; "accepted {}", Counts(accepted.set().tables()))?;
+    let _ = AnyMachine::make(accepted, request.shape, MACHINE).serve(rt, &Whole(request))?;
+    Ok(())
 }
 
-fn run_shaped(rt: &HostRuntime, accepted: Accepted, request: &Request) -> anyhow::Result<bool> {
-    match request.shape() {
-        HeapShape::Slot => run_over(rt, accepted, SlotHeap::new(), request),
-        HeapShape::SlotUnder(a) => {
-            run_over(rt, accepted, Allowance::new(SlotHeap::new(), a), request)
-        }
-        HeapShape::SlotUnderTwo(a, b) => run_over(
-            rt,
-            accepted,
-            Allowance::new(Allowance::new(SlotHeap::new(), a), b),
-            request,
-        ),
-        HeapShape::Cell => run_over(rt, accepted, CellHeap::new(), request),
-        HeapShape::CellUnder(a) => {
-            run_over(rt, accepted, Allowance::new(CellHeap::new(), a), request)
-        }
-        HeapShape::CellUnderTwo(a, b) => run_over(
-            rt,
-            accepted,
-            Allowance::new(Allowance::new(CellHeap::new(), a), b),
-            request,
-        ),
-    }
-}
+/// A run from begin to end, which is told.
+#[derive(Drop)]
+struct Whole(Request);
 
-fn run_over<H: Heap + Drop>(
-    rt: &HostRuntime,
-    accepted: Accepted,
-    heap: H,
-    request: &Request,
-) -> anyhow::Result<bool> {
-    let mut machine = Machine::make(accepted, heap, MACHINE);
-    let class = request.class;
-    let name = request.name;
-    match machine.play(class, name, request.args.as_slice(), request.steps) {
-        Ok(played) => {
-            println!(rt; "begun class {class} name {name}")?;
-            let count = played.ran.count;
-            let last = AnswerWord(played.ran.last);
-            println!(rt; "ran {count} steps, answer {last}")?;
-            print_ended(rt, &machine, played.ended)?;
-            print_use(rt, machine.heap())?;
-            Ok(true)
-        }
-        Err(refusal) => {
-            print_refused(rt, refusal)?;
-            Ok(false)
-        }
-    }
-}
+/// An answer by its number and its name.
+#[derive(Clone, Copy)]
+struct AnswerWord(Answer);
 
-fn print_ended<H: Heap>(
-    rt: &HostRuntime,
-    machine: &Machine<H>,
+/// How a run ended, over the heap that it left.
+#[derive(Drop)]
+struct Ending<'a, H: Heap> {
     ended: Ended,
-) -> anyhow::Result<()> {
-    let steps = ended.steps;
-    match ended.outcome {
-        Outcome::Returned(v) => {
-            let value = ValueWord(v);
-            println!(rt; "finished after {steps} steps with {value}")?;
-        }
-        Outcome::Threw(a) => match machine.heap().class(a) {
-            Ok(c) => {
-                let class = ClassWord(c);
-                println!(rt; "uncaught after {steps} steps: the object @{a} of {class}")?;
-            }
-            Err(_) => println!(rt; "uncaught after {steps} steps: @{a}")?,
-        },
-        Outcome::Nothing => println!(rt; "ended in the run after {steps} steps")?,
-    }
-    Ok(())
+    heap: &'a H,
 }
 
-// The use of each charge line, from the top of the pile.
-fn print_use<H: Heap>(rt: &HostRuntime, heap: &H) -> anyhow::Result<()> {
-    for i in 0..MOST_LINES {
-        if let Some(line) = heap.line(i) {
-            let use_now = used(heap, line);
-            let total = line.total;
-            println!(rt; "line {i}: {use_now} of {total} used")?;
+impl Job for Whole {
+    fn do_with<H: Heap + Drop>(
+        &self,
+        rt: &HostRuntime,
+        machine: &mut Machine<H>,
+    ) -> Result<(), Stop> {
+        let Callee { class, name } = self.0.callee;
+        let played = machine
+            .play(class, name, self.0.args.as_slice(), self.0.steps)
+            .map_err(Refused::Call)?;
+        println!(rt; "begun class {class} name {name}")?;
+        println!(rt;
+            "ran {} steps, answer {}",
+            played.ran.count,
+            AnswerWord(played.ran.last)
+        )?;
+        let heap = machine.heap();
+        let ended = played.ended;
+        println!(rt; "{}", Ending { ended, heap })?;
+        for (i, line) in (0..MOST_LINES).filter_map(|i| use_at(heap, i)).enumerate() {
+            println!(rt; "line {i}: {} of {} used", line.used, line.total)?;
+        }
+        Ok(())
+    }
+}
+
+impl fmt::Display for AnswerWord {
+    fn fmt<W: fmt::Write>(&self, f: &mut fmt::Formatter<W>) -> fmt::Result {
+        write!(f, "{} {}", self.0.number(), self.0.name())
+    }
+}
+
+impl<H: Heap> fmt::Display for Ending<'_, H> {
+    fn fmt<W: fmt::Write>(&self, f: &mut fmt::Formatter<W>) -> fmt::Result {
+        let steps = self.ended.steps;
+        match self.ended.outcome {
+            Outcome::Returned(v) => write!(f, "finished after {steps} steps with {}", ValueWord(v)),
+            Outcome::Threw(a) => {
+                write!(f, "uncaught after {steps} steps: ")?;
+                match self.heap.class(a) {
+                    Ok(class) => write!(f, "the object @{a} of {}", ClassWord(class)),
+                    Err(_) => write!(f, "@{a}"),
+                }
+            }
+            Outcome::Nothing => write!(f, "ended in the run after {steps} steps"),
         }
     }
-    Ok(())
 }

@@ -1,97 +1,111 @@
 // `loadrules shell`: answers the commands of standard input, one a line, each by exactly one line.
 use crate::desk::Desk;
+use crate::faults::Brief;
 use crate::options::Words;
-use crate::orders::order_of;
+use crate::orders::Order;
+use crate::stop::Stop;
 use std::alloc::{AllocError, Global};
 use std::io;
 use std::io::{BufRead, BufReader};
 use std::string::String;
 use std::vec::Vec;
 
-/// Serves the lines of standard input; nothing where the words are others.
-pub fn shell(rt: &HostRuntime, words: &mut Words) -> anyhow::Result<Option<bool>> {
+/// Serves the lines of standard input.
+pub fn shell(rt: &HostRuntime, words: &mut Words) -> Result<(), Stop> {
     let prompt = match words.next() {
         None => false,
         Some("--prompt") => true,
-        Some(_) => return Ok(None),
+        Some(_) => return Err(Stop::NotUnderstood),
     };
-    if !words.is_empty() {
-        return Ok(None);
-    }
-    if prompt {
-        print_help(rt)?;
-    }
-    serve_lines(rt, prompt)?;
-    Ok(Some(true))
+    words.end()?;
+    let mut session = Session {
+        rt,
+        desk: Desk::new(),
+        prompt,
+    };
+    session.serve()
 }
 
-fn serve_lines(rt: &HostRuntime, prompt: bool) -> anyhow::Result<()> {
-    let alloc = rt.alloc();
-    let mut desk = Desk::new();
-    print_prompt(rt, prompt)?;
-    for line in BufReader::new(alloc, rt.stdin())?.lines(alloc) {
-        match line {
-            Ok(text) => answer_line(rt, &mut desk, text.as_str(), prompt)?,
-            Err(e) if e.kind() == io::ErrorKind::InvalidData => println!(rt; "error: not text")?,
-            Err(e) => return Err(e.into()),
+/// A shell at its desk. For people it prints help and prompts.
+#[derive(Drop)]
+struct Session<'a> {
+    rt: &'a HostRuntime,
+    desk: Desk,
+    prompt: bool,
+}
+
+impl Session<'_> {
+    fn serve(&mut self) -> Result<(), Stop> {
+        let rt = self.rt;
+        let alloc = rt.alloc();
+        if self.prompt {
+            print_help(rt)?;
         }
-        print_prompt(rt, prompt)?;
+        self.print_prompt()?;
+        for line in BufReader::new(alloc, rt.stdin())?.lines(alloc) {
+            match line {
+                Ok(text) => self.answer_line(text.as_str())?,
+                Err(e) if e.kind() == io::ErrorKind::InvalidData => {
+                    println!(rt; "error: not text")?
+                }
+                Err(e) => return Err(e.into()),
+            }
+            self.print_prompt()?;
+        }
+        Ok(())
     }
-    Ok(())
-}
 
-// Blank lines and comments are passed over.
-fn answer_line(rt: &HostRuntime, desk: &mut Desk, text: &str, prompt: bool) -> anyhow::Result<()> {
-    let given = split(rt.alloc(), text)?;
-    let mut words = Words::new(given.as_slice());
-    match words.peek() {
-        None => return Ok(()),
-        Some(word) if word.starts_with("#") => return Ok(()),
-        Some("help") if prompt => return print_help(rt),
-        Some(_) => {}
+    // Blank lines and comments are passed over.
+    fn answer_line(&mut self, text: &str) -> Result<(), Stop> {
+        let rt = self.rt;
+        let given = split(rt.alloc(), text)?;
+        let mut words = Words::new(given.as_slice());
+        let answered = match words.peek() {
+            None => return Ok(()),
+            Some(word) if word.starts_with("#") => return Ok(()),
+            Some("help") if self.prompt => print_help(rt),
+            Some(_) => self.answer(&mut words),
+        };
+        match answered {
+            Err(Stop::NotUnderstood) => println!(rt; "error: {text}")?,
+            Err(Stop::Refused(refused)) => println!(rt; "{}", Brief(refused))?,
+            Err(Stop::Failed(e)) => return Err(Stop::Failed(e)),
+            Ok(()) => {}
+        }
+        Ok(())
     }
-    if !answer(rt, desk, &mut words)? {
-        println!(rt; "error: {text}")?;
+
+    // Answers one command by one line; where it is not understood or refused, nothing is printed.
+    fn answer(&mut self, words: &mut Words) -> Result<(), Stop> {
+        let rt = self.rt;
+        let desk = &mut self.desk;
+        let mut rest = Words::new(words.left);
+        match rest.next() {
+            Some("heap") => desk.choose_heap(rt, &mut rest),
+            Some("read") => desk.read(rt, &mut rest),
+            Some("load") => desk.load(rt, &mut rest),
+            Some("write") => desk.write(rt, &mut rest),
+            Some("table") => desk.table(rt, &mut rest),
+            Some("make") => desk.make(rt, &mut rest),
+            _ => desk.carry_out(rt, &Order::parse(rt.alloc(), words)?),
+        }
     }
-    Ok(())
+
+    fn print_prompt(&self) -> Result<(), Stop> {
+        if self.prompt {
+            print!(self.rt; "> ")?;
+        }
+        Ok(())
+    }
 }
 
 fn split(alloc: Global, text: &str) -> Result<Vec<String>, AllocError> {
-    let mut words = Vec::new(alloc);
-    for word in text.split_whitespace() {
-        words.push(String::from_str(alloc, word)?)?;
-    }
-    Ok(words)
+    text.split_whitespace()
+        .map(|word| String::from_str(alloc, word))
+        .try_collect(alloc)
 }
 
-// Answers one command; false where it is not understood, and then nothing is printed.
-fn answer(rt: &HostRuntime, desk: &mut Desk, words: &mut Words) -> anyhow::Result<bool> {
-    let mut rest = Words::new(words.rest());
-    match rest.next() {
-        Some("heap") => desk.choose_heap(rt, &mut rest),
-        Some("read") => desk.read(rt, &mut rest),
-        Some("load") => desk.load(rt, &mut rest),
-        Some("write") => desk.write(rt, &mut rest),
-        Some("table") => desk.table(rt, &mut rest),
-        Some("make") => desk.make(rt, &mut rest),
-        _ => match order_of(rt.alloc(), words)? {
-            Some(order) => {
-                desk.carry_out(rt, &order)?;
-                Ok(true)
-            }
-            None => Ok(false),
-        },
-    }
-}
-
-fn print_prompt(rt: &HostRuntime, prompt: bool) -> anyhow::Result<()> {
-    if prompt {
-        print!(rt; "> ")?;
-    }
-    Ok(())
-}
-
-fn print_help(rt: &HostRuntime) -> anyhow::Result<()> {
+fn print_help(rt: &HostRuntime) -> Result<(), Stop> {
     println!(rt;
         "heap slot|cell [F P T] [F P T]   the heap of the next machine, under up to two allowances"
     )?;

@@ -1,133 +1,98 @@
 // `loadrules table FILE CLASS NAME`: the least well-typing of a method, one line an instruction.
 use crate::check::load_file;
-use crate::faults::print_number;
+use crate::faults::Refused;
+use crate::listing::registers_of;
+use crate::lists::write_list;
 use crate::options::Words;
-use crate::request::method_of;
+use crate::request::Callee;
+use crate::stop::Stop;
 use crate::words::{InstrWord, TypeWord};
-use jinja::program::{ClassNumber, Name};
 use jinja::ty::Ty;
+use std::fmt;
 use tables::tables::Tables;
+use type_rows::row::REGISTERS;
 use verifier::accepted::Accepted;
 use verifier::least::least_table;
 use walk::{WIDTH, WORKSPACE};
 
 /// The number of what is absent or unusable.
 const ABSENT: u16 = 255;
-/// Where the registers of a row begin: behind its height and 16 stack cells.
-const REGISTERS: usize = 17;
 
-/// Prints the least table that the words ask for; nothing where they are others.
-pub fn table_file(rt: &HostRuntime, words: &mut Words) -> anyhow::Result<Option<bool>> {
-    let Some(path) = words.next() else {
-        return Ok(None);
-    };
-    let Some((class, name)) = method_of(words) else {
-        return Ok(None);
-    };
-    if !words.is_empty() {
-        return Ok(None);
-    }
-    let mut accepted = Accepted::empty();
-    if !load_file(rt, path, &mut accepted)? {
-        return Ok(Some(false));
-    }
-    Ok(Some(print_table(rt, &accepted, class, name)?))
+/// Prints the least table that the words ask for.
+pub fn table_file(rt: &HostRuntime, words: &mut Words) -> Result<(), Stop> {
+    let path = words.text()?;
+    let callee = Callee::parse(words)?;
+    words.end()?;
+    print_table(rt, &load_file(rt, path)?, callee)
 }
 
-fn print_table(
-    rt: &HostRuntime,
-    accepted: &Accepted,
-    class: ClassNumber,
-    name: Name,
-) -> anyhow::Result<bool> {
-    let mut workspace = [0u16; WORKSPACE];
-    if let Err(fault) = least_table(accepted, class, name, &mut workspace) {
-        print_number(rt, fault.number())?;
-        return Ok(false);
-    }
+fn print_table(rt: &HostRuntime, accepted: &Accepted, callee: Callee) -> Result<(), Stop> {
+    let mut rows = [0u16; WORKSPACE];
+    let Callee { class, name } = callee;
+    least_table(accepted, class, name, &mut rows).map_err(Refused::Table)?;
     let tables = accepted.set().tables();
     if let Some(k) = tables.sees(class, name) {
         println!(rt; "method {k}")?;
-        print_rows(rt, tables, k, &workspace)?;
+        print_rows(rt, tables, k, &rows)?;
     }
-    Ok(true)
+    Ok(())
 }
 
-fn print_rows(rt: &HostRuntime, tables: &Tables, k: usize, rows: &[u16]) -> anyhow::Result<()> {
-    let registers = registers_of(tables, k);
-    for (at, instr) in tables.code_of(k).iter().enumerate() {
-        let word = InstrWord { at, instr: *instr };
-        print!(rt; "  {at}: {word} | ")?;
-        let from = at.saturating_mul(WIDTH);
-        match rows.get(from..from.saturating_add(WIDTH)) {
-            Some(row) => print_row(rt, row, registers)?,
-            None => println!(rt; "")?,
+fn print_rows(rt: &HostRuntime, tables: &Tables, k: usize, rows: &[u16]) -> Result<(), Stop> {
+    let registers = tables.method(k).map_or(0, registers_of);
+    let code = tables.code_of(k).iter().enumerate();
+    for ((at, instr), row) in code.zip(rows.chunks_exact(WIDTH)) {
+        let instr = *instr;
+        println!(rt;
+            "  {at}: {} | {}",
+            InstrWord { at, instr },
+            RowWord { row, registers }
+        )?;
+    }
+    Ok(())
+}
+
+/// The row of an instruction: its stack, and so many registers.
+#[derive(Drop)]
+struct RowWord<'a> {
+    row: &'a [u16],
+    registers: usize,
+}
+
+/// A type by its number in a row.
+#[derive(Clone, Copy)]
+struct NumberWord(u16);
+
+impl fmt::Display for RowWord<'_> {
+    fn fmt<W: fmt::Write>(&self, f: &mut fmt::Formatter<W>) -> fmt::Result {
+        match self.row.split_first() {
+            None | Some((0, _)) => write!(f, "unreached"),
+            Some((height, cells)) => {
+                let height = usize::from(*height) - 1;
+                write!(f, "stack [")?;
+                write_types(f, cells, height)?;
+                write!(f, "] registers [")?;
+                write_types(f, self.row.get(REGISTERS..).unwrap_or(&[]), self.registers)?;
+                write!(f, "]")
+            }
         }
     }
-    Ok(())
 }
 
-// This object, the parameters and the extras.
-fn registers_of(tables: &Tables, k: usize) -> usize {
-    match tables.method(k) {
-        Some(method) => method
-            .params
-            .count
-            .saturating_add(1)
-            .saturating_add(usize::from(method.extras)),
-        None => 0,
-    }
+// The first types of a row's part.
+fn write_types<W: fmt::Write>(
+    f: &mut fmt::Formatter<W>,
+    numbers: &[u16],
+    count: usize,
+) -> fmt::Result {
+    write_list(f, ", ", numbers.iter().take(count).map(|n| NumberWord(*n)))
 }
 
-fn print_row(rt: &HostRuntime, row: &[u16], registers: usize) -> anyhow::Result<()> {
-    let height = match row.first() {
-        Some(0) => {
-            println!(rt; "unreached")?;
-            return Ok(());
+impl fmt::Display for NumberWord {
+    fn fmt<W: fmt::Write>(&self, f: &mut fmt::Formatter<W>) -> fmt::Result {
+        match Ty::try_from(self.0) {
+            Ok(ty) if self.0 != ABSENT => write!(f, "{}", TypeWord(ty)),
+            _ => write!(f, "unusable"),
         }
-        Some(h) => usize::from(*h).saturating_sub(1),
-        None => 0,
-    };
-    print!(rt; "stack [")?;
-    print_types(rt, row, 1, height)?;
-    print!(rt; "] registers [")?;
-    print_types(rt, row, REGISTERS, registers)?;
-    println!(rt; "]")?;
-    Ok(())
-}
-
-// So many types of a row from a place on.
-fn print_types(rt: &HostRuntime, row: &[u16], from: usize, count: usize) -> anyhow::Result<()> {
-    for (i, number) in row.iter().skip(from).take(count).enumerate() {
-        let between = if i == 0 { "" } else { ", " };
-        print!(rt; "{between}")?;
-        print_type(rt, *number)?;
-    }
-    Ok(())
-}
-
-fn print_type(rt: &HostRuntime, number: u16) -> anyhow::Result<()> {
-    match type_of(number) {
-        Some(ty) => {
-            let word = TypeWord(ty);
-            print!(rt; "{word}")?;
-        }
-        None => print!(rt; "unusable")?,
-    }
-    Ok(())
-}
-
-// The type of a number; nothing for what is unusable.
-fn type_of(number: u16) -> Option<Ty> {
-    match number {
-        0 => Some(Ty::Void),
-        1 => Some(Ty::Boolean),
-        2 => Some(Ty::Integer),
-        3 => Some(Ty::NullType),
-        ABSENT => None,
-        n => match u8::try_from(n - 4) {
-            Ok(c) => Some(Ty::Class(c)),
-            Err(_) => None,
-        },
     }
 }

@@ -1,9 +1,11 @@
 // Values as a person writes and reads them.
+use crate::stop::NotUnderstood;
 use heap::value::Value;
 use std::fmt;
+use std::str::FromStr;
 
 /// A value: `unit`, `null`, `true`, `false`, an integer, or an address behind `@`.
-#[derive(Drop)]
+#[derive(Clone, Copy)]
 pub struct ValueWord(pub Value);
 
 impl fmt::Display for ValueWord {
@@ -18,27 +20,19 @@ impl fmt::Display for ValueWord {
     }
 }
 
-/// The value that a word names.
-pub fn value_of(word: &str) -> Option<Value> {
-    match word {
-        "unit" => Some(Value::Unit),
-        "null" => Some(Value::Null),
-        "true" => Some(Value::Bool(true)),
-        "false" => Some(Value::Bool(false)),
-        _ => number_of(word),
-    }
-}
+impl FromStr for ValueWord {
+    type Err = NotUnderstood;
 
-// An integer, or an address.
-fn number_of(word: &str) -> Option<Value> {
-    if let Some(address) = word.strip_prefix("@") {
-        return match address.parse::<u16>() {
-            Ok(a) => Some(Value::Addr(a)),
-            Err(_) => None,
-        };
-    }
-    match word.parse::<i32>() {
-        Ok(z) => Some(Value::Int(z)),
-        Err(_) => None,
+    fn from_str(word: &str) -> Result<ValueWord, NotUnderstood> {
+        Ok(ValueWord(match word {
+            "unit" => Value::Unit,
+            "null" => Value::Null,
+            "true" => Value::Bool(true),
+            "false" => Value::Bool(false),
+            _ => match word.strip_prefix("@") {
+                Some(address) => Value::Addr(address.parse::<u16>()?),
+                None => Value::Int(word.parse::<i32>()?),
+            },
+        }))
     }
 }

@@ -1,26 +1,26 @@
-// Classes, types and instructions as a person reads them.
+// Classes, types and instructions as a person reads them: wrappers, since the types are those of other crates.
 use jinja::instr::{Instr, Literal};
-use jinja::program::ClassNumber;
+use jinja::program::{CLASS_CAST, ClassNumber, NULL_POINTER, OBJECT, OUT_OF_MEMORY};
 use jinja::ty::Ty;
 use std::fmt;
 
 /// A class by its number, and by its name where it is built in.
-#[derive(Drop)]
+#[derive(Clone, Copy)]
 pub struct ClassWord(pub ClassNumber);
 
 impl fmt::Display for ClassWord {
     fn fmt<W: fmt::Write>(&self, f: &mut fmt::Formatter<W>) -> fmt::Result {
         match self.0 {
-            0 => write!(f, "Object"),
-            1 => write!(f, "NullPointer"),
-            2 => write!(f, "ClassCast"),
-            3 => write!(f, "OutOfMemory"),
+            OBJECT => write!(f, "Object"),
+            NULL_POINTER => write!(f, "NullPointer"),
+            CLASS_CAST => write!(f, "ClassCast"),
+            OUT_OF_MEMORY => write!(f, "OutOfMemory"),
             c => write!(f, "class {c}"),
         }
     }
 }
 
-#[derive(Drop)]
+#[derive(Clone, Copy)]
 pub struct TypeWord(pub Ty);
 
 impl fmt::Display for TypeWord {
@@ -30,15 +30,12 @@ impl fmt::Display for TypeWord {
             Ty::Boolean => write!(f, "Boolean"),
             Ty::Integer => write!(f, "Integer"),
             Ty::NullType => write!(f, "Null"),
-            Ty::Class(c) => {
-                let class = ClassWord(c);
-                write!(f, "{class}")
-            }
+            Ty::Class(c) => write!(f, "{}", ClassWord(c)),
         }
     }
 }
 
-#[derive(Drop)]
+#[derive(Clone, Copy)]
 pub struct LiteralWord(pub Literal);
 
 impl fmt::Display for LiteralWord {
@@ -53,7 +50,7 @@ impl fmt::Display for LiteralWord {
 }
 
 /// Where a jump leads from the instruction at `from`.
-#[derive(Drop)]
+#[derive(Clone, Copy)]
 pub struct JumpWord {
     pub from: usize,
     pub offset: i16,
@@ -73,7 +70,7 @@ impl fmt::Display for JumpWord {
 }
 
 /// An instruction and its place in the method.
-#[derive(Drop)]
+#[derive(Clone, Copy)]
 pub struct InstrWord {
     pub at: usize,
     pub instr: Instr,
@@ -81,51 +78,24 @@ pub struct InstrWord {
 
 impl fmt::Display for InstrWord {
     fn fmt<W: fmt::Write>(&self, f: &mut fmt::Formatter<W>) -> fmt::Result {
+        let from = self.at;
         match self.instr {
             Instr::Load(n) => write!(f, "Load register {n}"),
             Instr::Store(n) => write!(f, "Store register {n}"),
-            Instr::Push(v) => {
-                let literal = LiteralWord(v);
-                write!(f, "Push {literal}")
-            }
+            Instr::Push(v) => write!(f, "Push {}", LiteralWord(v)),
             Instr::Pop => write!(f, "Pop"),
-            Instr::New(c) => on_class(f, "New", c),
-            Instr::Getfield(name, c) => on_field(f, "Getfield", name, c),
-            Instr::Putfield(name, c) => on_field(f, "Putfield", name, c),
-            Instr::Checkcast(c) => on_class(f, "Checkcast", c),
+            Instr::New(c) => write!(f, "New {}", ClassWord(c)),
+            Instr::Getfield(name, c) => write!(f, "Getfield {name} of {}", ClassWord(c)),
+            Instr::Putfield(name, c) => write!(f, "Putfield {name} of {}", ClassWord(c)),
+            Instr::Checkcast(c) => write!(f, "Checkcast {}", ClassWord(c)),
             Instr::Invoke(name, 1) => write!(f, "Invoke {name} with 1 argument"),
             Instr::Invoke(name, n) => write!(f, "Invoke {name} with {n} arguments"),
             Instr::Return => write!(f, "Return"),
             Instr::IAdd => write!(f, "IAdd"),
             Instr::CmpEq => write!(f, "CmpEq"),
-            Instr::IfFalse(offset) => jump(f, "IfFalse", self.at, offset),
-            Instr::Goto(offset) => jump(f, "Goto", self.at, offset),
+            Instr::IfFalse(offset) => write!(f, "IfFalse {}", JumpWord { from, offset }),
+            Instr::Goto(offset) => write!(f, "Goto {}", JumpWord { from, offset }),
             Instr::Throw => write!(f, "Throw"),
         }
     }
-}
-
-fn on_class<W: fmt::Write>(f: &mut fmt::Formatter<W>, word: &str, c: ClassNumber) -> fmt::Result {
-    let class = ClassWord(c);
-    write!(f, "{word} {class}")
-}
-
-fn on_field<W: fmt::Write>(
-    f: &mut fmt::Formatter<W>,
-    word: &str,
-    name: u8,
-    c: ClassNumber,
-) -> fmt::Result {
-    let class = ClassWord(c);
-    write!(f, "{word} {name} of {class}")
-}
-
-fn jump<W: fmt::Write>(
-    f: &mut fmt::Formatter<W>,
-    word: &str,
-    from: usize,
-    offset: i16,
-) -> fmt::Result {
-    let target = JumpWord { from, offset };
-    write!(f, "{word} {target}")
 }
