@@ -5,14 +5,11 @@ ghost use Rattle.walk.specs.Answers.{Answers};
 ghost use Rattle.walk_heights.specs.HeightLaws.{height_framework};
 
 mod code;
+mod height;
 
 pub use code::Code;
+use height::{HIGHEST, Height};
 use walk::{Analysis, Unsolved, WIDTH, walk};
-
-// 1 + the greatest height, and one more.
-const CLASH: u16 = 18;
-
-const HIGHEST: u16 = 16;
 
 const PUSH: u16 = 256;
 
@@ -24,31 +21,26 @@ impl<'a> Analysis for Code<'a> {
     }
 
     fn bottom(&self, out: &mut [u16; WIDTH]) {
-        out[0] = 0;
+        out[0] = Height::Unreached.into();
     }
 
     fn start(&self, out: &mut [u16; WIDTH]) {
-        out[0] = 1;
+        out[0] = Height::Tall(0).into();
     }
 
     fn join(&self, row: &mut [u16], other: &[u16]) -> bool {
-        let (a, b) = (row[0], other[0]);
-        if b == 0 || a == b || a == CLASH {
-            return false;
-        }
-        row[0] = if a == 0 { b } else { CLASH };
-        true
+        let before = Height::from(row[0]);
+        let after = before.join(Height::from(other[0]));
+        row[0] = after.into();
+        after != before
     }
 
     fn refuses(&self, i: usize, row: &[u16]) -> bool {
-        let h = row[0];
-        if h == 0 || h == CLASH {
-            return h == CLASH;
-        }
-        if self.steps[i] < PUSH {
-            h == 1
-        } else {
-            h > HIGHEST
+        match Height::from(row[0]) {
+            Height::Unreached => false,
+            Height::Tall(h) if self.steps[i] < PUSH => h == 0,
+            Height::Tall(h) => h >= HIGHEST,
+            Height::Clash => true,
         }
     }
 
@@ -57,16 +49,19 @@ impl<'a> Analysis for Code<'a> {
     }
 
     fn send(&self, i: usize, e: usize, row: &[u16], out: &mut [u16; WIDTH]) -> Option<usize> {
+        let Height::Tall(h) = Height::from(row[0]) else {
+            return None;
+        };
         let c = self.steps[i];
-        let h = row[0];
-        if h == 0 || (e > 0 && c >= PUSH) {
+        if e > 0 && c >= PUSH {
             return None;
         }
         let k = if e == 0 { i + 1 } else { c as usize };
         if k >= self.steps.len() {
             return None;
         }
-        out[0] = if c < PUSH { h - 1 } else { h + 1 };
+        let after = if c < PUSH { h - 1 } else { h + 1 };
+        out[0] = Height::Tall(after).into();
         Some(k)
     }
 }
