@@ -8,7 +8,8 @@ use Rattle.walk.specs.Flow.{Sent, nothing, sent, Below, nothing_below, row_below
 use Rattle.walk.specs.Framework.{Framework}
 use Rattle.walk_heights.specs.declared.height.Height.{Height}
 use Rattle.walk_heights.specs.declared.height.Height.TheVariants.{Unreached, Tall, Clash}
-use Rattle.walk_heights.specs.Heights.{highest, joined, Good, rises_left, read, Shows, is_branch, refused_at, after, to_step, sends_height, sends, heights}
+use Rattle.walk_heights.specs.Heights.{highest, joined, Good, rises_left, read, Shows, refused_at, after, to_step, sends_height, sends, heights}
+use Rattle.walk_heights.specs.Steps.{is_branch}
 
 -- two heights join to one of them or clash
 same_height : (a b : ℕ) → a ≡ b → joined (Tall a) (Tall b) ≡ Tall a

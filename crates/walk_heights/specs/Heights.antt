@@ -4,6 +4,7 @@ use Rattle.walk_heights.specs.declared.height.Height.{Height}
 use Rattle.walk_heights.specs.declared.height.Height.TheVariants.{Unreached, Tall, Clash}
 use Rattle.walk.specs.Flow.{Sent, nothing, sent, Flow}
 use Rattle.walk.specs.Rows.{OneRow}
+use Rattle.walk_heights.specs.Steps.{is_branch}
 
 -- the greatest height
 abbrev pub highest : ℕ
@@ -42,10 +43,6 @@ read x = read_number (slice_index x 0)
 
 abbrev pub Shows : List ℕ → Type 0
 Shows x = OneRow x × (slice_index x 0 ≤ highest + 2)
-
--- a number below 256 is a branch to that step or the next; any other is a push
-abbrev pub is_branch : ℕ → Bool
-is_branch c = nat_lt c 256
 
 abbrev pub refused_at : ℕ → Height → Bool
 refused_at c Unreached = false

@@ -8,10 +8,9 @@ mod code;
 mod height;
 
 pub use code::Code;
+use code::Step;
 use height::{HIGHEST, Height};
 use walk::{Analysis, Unsolved, WIDTH, walk};
-
-const PUSH: u16 = 256;
 
 impl<'a> Analysis for Code<'a> {
     ghost framework = { λ s. height_framework s.steps.now s.few };
@@ -36,11 +35,11 @@ impl<'a> Analysis for Code<'a> {
     }
 
     fn refuses(&self, i: usize, row: &[u16]) -> bool {
-        match Height::from(row[0]) {
-            Height::Unreached => false,
-            Height::Tall(h) if self.steps[i] < PUSH => h == 0,
-            Height::Tall(h) => h >= HIGHEST,
-            Height::Clash => true,
+        match (Height::from(row[0]), Step::from(self.steps[i])) {
+            (Height::Unreached, _) => false,
+            (Height::Tall(h), Step::Branch(_)) => h == 0,
+            (Height::Tall(h), Step::Push) => h >= HIGHEST,
+            (Height::Clash, _) => true,
         }
     }
 
@@ -52,15 +51,15 @@ impl<'a> Analysis for Code<'a> {
         let Height::Tall(h) = Height::from(row[0]) else {
             return None;
         };
-        let c = self.steps[i];
-        if e > 0 && c >= PUSH {
-            return None;
-        }
-        let k = if e == 0 { i + 1 } else { c as usize };
+        let (k, after) = match (e, Step::from(self.steps[i])) {
+            (0, Step::Branch(_)) => (i + 1, h - 1),
+            (0, Step::Push) => (i + 1, h + 1),
+            (_, Step::Branch(to)) => (usize::from(to), h - 1),
+            (_, Step::Push) => return None,
+        };
         if k >= self.steps.len() {
             return None;
         }
-        let after = if c < PUSH { h - 1 } else { h + 1 };
         out[0] = Height::Tall(after).into();
         Some(k)
     }

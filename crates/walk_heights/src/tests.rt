@@ -1,7 +1,7 @@
 // Codes whose paths agree, disagree, and take more than there is.
 use super::*;
 
-const NEXT: u16 = PUSH;
+const NEXT: u16 = 256;
 
 #[test]
 fn paths_agree(rt: HostRuntime) {
