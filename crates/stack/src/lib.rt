@@ -15,6 +15,7 @@ pub struct TooFew;
 /// A stack in the first `height` of its cells, the bottom first.
 #[derive(Drop)]
 pub struct Stack<'a, T> {
+    // Lent, since each user has cells of its own and memory is fixed.
     cells: &'a mut [T],
     height: usize,
     ghost within: { height ≤ length cells.now },

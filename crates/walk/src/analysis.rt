@@ -26,6 +26,8 @@ pub trait Analysis {
         ensures shows { (framework self.now).shows out.new }
         ensures means { (framework self.now).read out.new ≡ (framework self.now).flow.start };
 
+    // Rows that are read are slices: an array would ask more of callers than that the slice shows a row.
+
     /// Joins `other` into `row`, and says whether that changed it.
     fn join(&self, row: &mut [u16], other: &[u16]) -> bool
         requires row { (framework self.now).shows row.old }

@@ -27,8 +27,8 @@ impl<'a, A: Analysis> Walk<'a, A> {
         requires node { 0 < nodes (A.Analysis.framework analysis.now) }
         requires room { Room (A.Analysis.framework analysis.now) workspace.old }
         ensures underway { Underway (A.Analysis.framework analysis.now) result.workspace.now (marked result.marks.words) }
-        ensures settled { AllSettled (A.Analysis.framework analysis.now) (marked result.marks.words) (table (A.Analysis.framework analysis.now) result.workspace.now) }
-        ensures behind { rest (A.Analysis.framework analysis.now) result.workspace.now ≡ rest (A.Analysis.framework analysis.now) workspace.old }
+        ensures settled { let m = A.Analysis.framework analysis.now in AllSettled m (marked result.marks.words) (table m result.workspace.now) }
+        ensures behind { let m = A.Analysis.framework analysis.now in rest m result.workspace.now ≡ rest m workspace.old }
         ensures analysis { result.analysis ≡ analysis.entry }
         ensures same { result.workspace.ghost_name ≡ workspace.entry.ghost_name }
     {
@@ -39,6 +39,7 @@ impl<'a, A: Analysis> Walk<'a, A> {
         };
         let mut row = [0; WIDTH];
         analysis.bottom(&mut row);
+        // By number: of what is written through `chunks_exact_mut` nothing is known but the length.
         for i in 0..analysis.count() {
             walk.write(i, &row);
         }
@@ -52,7 +53,7 @@ impl<'a, A: Analysis> Walk<'a, A> {
     fn write(&mut self, i: usize, row: &[u16; WIDTH])
         requires node { i < nodes (A.Analysis.framework self.old.analysis.now) }
         requires shows { (A.Analysis.framework self.old.analysis.now).shows row.now }
-        ensures written { Written (A.Analysis.framework self.old.analysis.now) i ((A.Analysis.framework self.old.analysis.now).read row.now) self.old.workspace.now self.new.workspace.now }
+        ensures written { let m = A.Analysis.framework self.old.analysis.now in Written m i (m.read row.now) self.old.workspace.now self.new.workspace.now }
         ensures marks { self.new.marks ≡ self.old.marks }
         ensures analysis { self.new.analysis ≡ self.old.analysis }
         ensures same { self.new.workspace.ghost_name ≡ self.old.workspace.ghost_name }
@@ -64,10 +65,10 @@ impl<'a, A: Analysis> Walk<'a, A> {
     /// Looks at marked nodes until none is left, or until one of them refuses its row.
     pub fn settle(&mut self) -> Result<(), Unsolved>
         requires underway { Underway (A.Analysis.framework self.old.analysis.now) self.old.workspace.now (marked self.old.marks.words) }
-        requires settled { AllSettled (A.Analysis.framework self.old.analysis.now) (marked self.old.marks.words) (table (A.Analysis.framework self.old.analysis.now) self.old.workspace.now) }
+        requires settled { let m = A.Analysis.framework self.old.analysis.now in AllSettled m (marked self.old.marks.words) (table m self.old.workspace.now) }
         ensures underway { Underway (A.Analysis.framework self.old.analysis.now) self.new.workspace.now (marked self.new.marks.words) }
-        ensures answer { MatchResult result (λ _. Least (A.Analysis.framework self.old.analysis.now) (table (A.Analysis.framework self.old.analysis.now) self.new.workspace.now)) (λ e. (e ≡ Unsolved.Refused) × Unsolvable (A.Analysis.framework self.old.analysis.now)) }
-        ensures behind { rest (A.Analysis.framework self.old.analysis.now) self.new.workspace.now ≡ rest (A.Analysis.framework self.old.analysis.now) self.old.workspace.now }
+        ensures answer { let m = A.Analysis.framework self.old.analysis.now in MatchResult result (λ _. Least m (table m self.new.workspace.now)) (λ e. (e ≡ Unsolved.Refused) × Unsolvable m) }
+        ensures behind { let m = A.Analysis.framework self.old.analysis.now in rest m self.new.workspace.now ≡ rest m self.old.workspace.now }
         ensures same { self.new.workspace.ghost_name ≡ self.old.workspace.ghost_name }
     {
         while let Some(i) = self.marks.first() {
@@ -84,7 +85,7 @@ impl<'a, A: Analysis> Walk<'a, A> {
     fn refuses(&self, i: usize) -> bool
         requires node { i < nodes (A.Analysis.framework self.now.analysis.now) }
         requires shown { Shown (A.Analysis.framework self.now.analysis.now) self.now.workspace.now }
-        ensures { result ≡ (A.Analysis.framework self.now.analysis.now).flow.refused i (table (A.Analysis.framework self.now.analysis.now) self.now.workspace.now i) }
+        ensures { let m = A.Analysis.framework self.now.analysis.now in result ≡ m.flow.refused i (table m self.now.workspace.now i) }
     {
         let from = i * WIDTH;
         self.analysis
@@ -95,10 +96,10 @@ impl<'a, A: Analysis> Walk<'a, A> {
     fn take_edges(&mut self, i: usize)
         requires node { i < nodes (A.Analysis.framework self.old.analysis.now) }
         requires underway { Underway (A.Analysis.framework self.old.analysis.now) self.old.workspace.now (marked self.old.marks.words) }
-        requires settled { Settled (A.Analysis.framework self.old.analysis.now) (marked self.old.marks.words) i 0 (table (A.Analysis.framework self.old.analysis.now) self.old.workspace.now) }
+        requires settled { let m = A.Analysis.framework self.old.analysis.now in Settled m (marked self.old.marks.words) i 0 (table m self.old.workspace.now) }
         ensures underway { Underway (A.Analysis.framework self.old.analysis.now) self.new.workspace.now (marked self.new.marks.words) }
-        ensures done { NodeDone (A.Analysis.framework self.old.analysis.now) (table (A.Analysis.framework self.old.analysis.now) self.old.workspace.now) (marked self.old.marks.words) (table (A.Analysis.framework self.old.analysis.now) self.new.workspace.now) (marked self.new.marks.words) }
-        ensures behind { rest (A.Analysis.framework self.old.analysis.now) self.new.workspace.now ≡ rest (A.Analysis.framework self.old.analysis.now) self.old.workspace.now }
+        ensures done { let m = A.Analysis.framework self.old.analysis.now in NodeDone m (table m self.old.workspace.now) (marked self.old.marks.words) (table m self.new.workspace.now) (marked self.new.marks.words) }
+        ensures behind { let m = A.Analysis.framework self.old.analysis.now in rest m self.new.workspace.now ≡ rest m self.old.workspace.now }
         ensures analysis { self.new.analysis ≡ self.old.analysis }
         ensures same { self.new.workspace.ghost_name ≡ self.old.workspace.ghost_name }
     {
@@ -116,10 +117,10 @@ impl<'a, A: Analysis> Walk<'a, A> {
         requires edge { e < (A.Analysis.framework self.old.analysis.now).flow.edges i }
         requires underway { Underway (A.Analysis.framework self.old.analysis.now) self.old.workspace.now (marked self.old.marks.words) }
         requires clean { marked self.old.marks.words i ≡ false }
-        requires settled { Settled (A.Analysis.framework self.old.analysis.now) (marked self.old.marks.words) i e (table (A.Analysis.framework self.old.analysis.now) self.old.workspace.now) }
+        requires settled { let m = A.Analysis.framework self.old.analysis.now in Settled m (marked self.old.marks.words) i e (table m self.old.workspace.now) }
         ensures underway { Underway (A.Analysis.framework self.old.analysis.now) self.new.workspace.now (marked self.new.marks.words) }
-        ensures midway { Midway (A.Analysis.framework self.old.analysis.now) i (e + 1) (table (A.Analysis.framework self.old.analysis.now) self.old.workspace.now) (marked self.old.marks.words) (table (A.Analysis.framework self.old.analysis.now) self.new.workspace.now) (marked self.new.marks.words) }
-        ensures behind { rest (A.Analysis.framework self.old.analysis.now) self.new.workspace.now ≡ rest (A.Analysis.framework self.old.analysis.now) self.old.workspace.now }
+        ensures midway { let m = A.Analysis.framework self.old.analysis.now in Midway m i (e + 1) (table m self.old.workspace.now) (marked self.old.marks.words) (table m self.new.workspace.now) (marked self.new.marks.words) }
+        ensures behind { let m = A.Analysis.framework self.old.analysis.now in rest m self.new.workspace.now ≡ rest m self.old.workspace.now }
         ensures analysis { self.new.analysis ≡ self.old.analysis }
         ensures same { self.new.workspace.ghost_name ≡ self.old.workspace.ghost_name }
     {
@@ -134,9 +135,9 @@ impl<'a, A: Analysis> Walk<'a, A> {
         requires node { i < nodes (A.Analysis.framework self.now.analysis.now) }
         requires edge { e < (A.Analysis.framework self.now.analysis.now).flow.edges i }
         requires shown { Shown (A.Analysis.framework self.now.analysis.now) self.now.workspace.now }
-        requires taken { (A.Analysis.framework self.now.analysis.now).flow.refused i (table (A.Analysis.framework self.now.analysis.now) self.now.workspace.now i) ≡ false }
+        requires taken { let m = A.Analysis.framework self.now.analysis.now in m.flow.refused i (table m self.now.workspace.now i) ≡ false }
         ensures shows { OnSome result ((A.Analysis.framework self.now.analysis.now).shows out.new) }
-        ensures sends { MatchOption result ((A.Analysis.framework self.now.analysis.now).flow.sends i e (table (A.Analysis.framework self.now.analysis.now) self.now.workspace.now i) ≡ nothing) (λ k. (A.Analysis.framework self.now.analysis.now).flow.sends i e (table (A.Analysis.framework self.now.analysis.now) self.now.workspace.now i) ≡ sent k ((A.Analysis.framework self.now.analysis.now).read out.new)) }
+        ensures sends { let m = A.Analysis.framework self.now.analysis.now in MatchOption result (m.flow.sends i e (table m self.now.workspace.now i) ≡ nothing) (λ k. m.flow.sends i e (table m self.now.workspace.now i) ≡ sent k (m.read out.new)) }
     {
         let from = i * WIDTH;
         self.analysis
@@ -149,8 +150,8 @@ impl<'a, A: Analysis> Walk<'a, A> {
         requires shown { Shown (A.Analysis.framework self.old.analysis.now) self.old.workspace.now }
         requires sent { (A.Analysis.framework self.old.analysis.now).shows sent.now }
         ensures shown { Shown (A.Analysis.framework self.old.analysis.now) self.new.workspace.now }
-        ensures raised { Raised (A.Analysis.framework self.old.analysis.now) k ((A.Analysis.framework self.old.analysis.now).read sent.now) (table (A.Analysis.framework self.old.analysis.now) self.old.workspace.now) (marked self.old.marks.words) (table (A.Analysis.framework self.old.analysis.now) self.new.workspace.now) (marked self.new.marks.words) }
-        ensures behind { rest (A.Analysis.framework self.old.analysis.now) self.new.workspace.now ≡ rest (A.Analysis.framework self.old.analysis.now) self.old.workspace.now }
+        ensures raised { let m = A.Analysis.framework self.old.analysis.now in Raised m k (m.read sent.now) (table m self.old.workspace.now) (marked self.old.marks.words) (table m self.new.workspace.now) (marked self.new.marks.words) }
+        ensures behind { let m = A.Analysis.framework self.old.analysis.now in rest m self.new.workspace.now ≡ rest m self.old.workspace.now }
         ensures analysis { self.new.analysis ≡ self.old.analysis }
         ensures same { self.new.workspace.ghost_name ≡ self.old.workspace.ghost_name }
     {
