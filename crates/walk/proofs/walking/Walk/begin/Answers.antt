@@ -1,16 +1,10 @@
 -- Each turn clears one more node; then node 0 gets the start, and the mark.
-use Rattle.std.proofs.Common.{◌≡◌, ℕ, false, ap, ◌∙◌, refl, arith}
+use Rattle.std.proofs.Common.{◌≡◌, ℕ, false, ap, ◌∙◌, arith}
 use Rattle.walk.specs.declared.marks.Marks.{Marks}
 use Rattle.walk.specs.Marks.{marked}
 use Rattle.walk.proofs.Theory.{held_begin, settled_first, inside_first}
 use Rattle.walk.proofs.Workspace.{cleared_more, begun}
 use Rattle.walk.proofs.walking.Walk.begin.Goals as goal
-
-pub loop-i-init : goal.loop-i-init
-loop-i-init g c = (λ j l. absurd (omega arith), refl, c.none.ensures, refl, refl)
-
-pub write-requires : goal.write-requires
-write-requires g c = rw c.loop-i.invariant.3 (record { node = omega arith; shows = c.bottom.ensures.shows })
 
 pub loop-i-preserved : goal.loop-i-preserved
 loop-i-preserved g c =
@@ -21,9 +15,6 @@ loop-i-preserved g c =
     let written = t.written in
     let w = rw c.bottom.ensures.means at written in
     (cleared_more m w v.0, w.behind ∙ v.1, λ j. ap (λ (s : Marks). marked s.words j) t.marks ∙ v.2 j, t.analysis, t.same ∙ v.4)
-
-pub write-requires-2 : goal.write-requires-2
-write-requires-2 g c = rw c.loop-i.invariant.3 (record { node = c.requires.node; shows = c.start.ensures.shows })
 
 pub returns : goal.returns
 returns g c =
