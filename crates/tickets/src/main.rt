@@ -49,18 +49,12 @@ fn print_ended(rt: &HostRuntime, ended: Ended) -> anyhow::Result<()> {
 
 // Begins and ends a run, and then another.
 fn two_runs<H: Heap>(machine: &mut Machine<H>) -> Result<(Ended, Ended), Refusal> {
-    let first = match machine.begin(CLASS, METHOD, &[]) {
-        Ok(ticket) => ticket,
-        Err(refusal) => return Err(refusal),
-    };
+    let first = machine.begin(CLASS, METHOD, &[])?;
     let one = match machine.end(first) {
         Ok(ended) => ended,
         Err((_, _held)) => unreachable(),
     };
-    let second = match machine.begin(CLASS, METHOD, &[]) {
-        Ok(ticket) => ticket,
-        Err(refusal) => return Err(refusal),
-    };
+    let second = machine.begin(CLASS, METHOD, &[])?;
     match machine.end(second) {
         Ok(ended) => Ok((one, ended)),
         Err((_, _held)) => unreachable(),
