@@ -56,28 +56,27 @@ pub(crate) fn add_object<H: Heap>(tables: &Tables, heap: &mut H, c: ClassNumber)
     if n > ROW_LIMIT {
         return None;
     }
-    let mut row = [Value::Unit; ROW_LIMIT];
-    start_row(tables, c, &mut row, n);
-    append(heap, c, &row, n)
+    let mut cells = [Value::Unit; ROW_LIMIT];
+    let row = &mut cells[..n];
+    start_row(tables, c, row);
+    append(heap, c, row)
 }
 
-// Adds an object with the first `n` values, where there is room.
-fn append<H: Heap>(heap: &mut H, c: ClassNumber, row: &[Value], n: usize) -> Option<u16>
-    requires { n ≤ length row.now }
-    ensures { (result, H.Heap.meaning heap.new) ≡ appended (H.Heap.meaning heap.old) c (take n row.now) }
+// Adds an object with these values, where there is room.
+fn append<H: Heap>(heap: &mut H, c: ClassNumber, row: &[Value]) -> Option<u16>
+    ensures { (result, H.Heap.meaning heap.new) ≡ appended (H.Heap.meaning heap.old) c row.now }
 {
-    heap.add(c, &row[..n]).ok()
+    heap.add(c, row).ok()
 }
 
-// Writes the `n` values that the fields of an object of class `c` start with: those of the class last, and so upward.
-fn start_row(tables: &Tables, c: ClassNumber, row: &mut [Value], n: usize)
-    requires all { n ≡ length (start_row (program_of tables.now) c) }
-    requires short { n ≤ length row.old }
-    ensures { take n row.new ≡ start_row (program_of tables.now) c }
+// Writes the values that the fields of an object of class `c` start with: those of the class last, and so upward.
+fn start_row(tables: &Tables, c: ClassNumber, row: &mut [Value])
+    requires { length row.old ≡ length (start_row (program_of tables.now) c) }
+    ensures { row.new ≡ start_row (program_of tables.now) c }
 {
     let mut at = c;
     let mut left = c;
-    let mut end = n;
+    let mut end = row.len();
     loop {
         let own = tables.own_fields(at);
         let start = end - own.len();

@@ -1,6 +1,6 @@
 -- The way up, with the values written from the last one on.
 use Rattle.std.proofs.Common.{◌≡◌, ◌-◌, length, sym, refl, ap, ◌∙◌, arith}
-use Rattle.std.proofs.lemmas.List.{length-map}
+use Rattle.std.proofs.lemmas.List.{length-map, take_all}
 use Rattle.jinja.specs.declared.program.Field.{Field}
 use Rattle.jinja.specs.Lookups.{own_fields, fields_within, fields_of}
 use Rattle.jinja.specs.Values.{start_value, start_row}
@@ -31,8 +31,8 @@ returns-then-start-eq0 c =
     let own = c.own_fields-own.result.now in
     let start = c.loop-c.end - length own in
     let v = c.loop-c.invariant in
-    let written = row_written P c.loop-c.left c.loop-c.at c.args.c c.args.n c.loop-c.end start own c.loop-c.row c.start_own.new.row c.own_fields-own.ensures.fields v.0 refl c.start_own.ensures.started c.start_own.ensures.above v.2 v.3 in
-    row_whole c.start_own.new.row c.args.n (start_row P c.args.c) c.requires.all (omega arith) (λ k l. written k (omega arith) l)
+    let written = row_written P c.loop-c.left c.loop-c.at c.args.c (length c.args.row.now) c.loop-c.end start own c.loop-c.row c.start_own.new.row c.own_fields-own.ensures.fields v.0 refl c.start_own.ensures.started c.start_own.ensures.above v.2 v.3 in
+    sym (take_all (length c.args.row.now) c.start_own.new.row (omega arith)) ∙ row_whole c.start_own.new.row (length c.args.row.now) (start_row P c.args.c) c.requires (omega arith) (λ k l. written k (omega arith) l)
 
 pub loop-c-preserved : goal.loop-c-preserved
 loop-c-preserved c =
@@ -45,7 +45,7 @@ loop-c-preserved c =
     let v = c.loop-c.invariant in
     let from : start ≡ length (fields_within P left at) - length (own_fields P at) = omega (arith, v.0, all) in
     let more = row_above P left at 0 start from (omega arith) in
-    let written = row_written P left at c.args.c c.args.n c.loop-c.end start own c.loop-c.row c.start_own.new.row c.own_fields-own.ensures.fields v.0 refl c.start_own.ensures.started c.start_own.ensures.above v.2 v.3 in
+    let written = row_written P left at c.args.c (length c.args.row.now) c.loop-c.end start own c.loop-c.row c.start_own.new.row c.own_fields-own.ensures.fields v.0 refl c.start_own.ensures.started c.start_own.ensures.above v.2 v.3 in
     rw c.superclass-at.ensures (
       length_row_above P left at start from more,
       omega (arith, v.1),

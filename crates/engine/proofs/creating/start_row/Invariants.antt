@@ -10,9 +10,9 @@ use Rattle.engine.proofs.creating.start_row.Given as goal
 abbrev pub invariant-loop-c : goal.invariant-loop-c
 invariant-loop-c l =
     (l.end ≡ length (fields_within (program_of l.tables) l.left l.at))
-    × (l.end ≤ l.n)
+    × (l.end ≤ length l.initial.row)
     × ((i : ℕ) → i < l.end → slice_get (fields_within (program_of l.tables) l.left l.at) i ≡ slice_get (fields_of (program_of l.tables) l.c) i)
-    × ((k : ℕ) → l.end ≤ k → k < l.n → get_or l.row k unit ≡ get_or (start_row (program_of l.tables) l.c) k unit)
+    × ((k : ℕ) → l.end ≤ k → k < length l.initial.row → get_or l.row k unit ≡ get_or (start_row (program_of l.tables) l.c) k unit)
 
 abbrev pub decreases-loop-c : goal.decreases-loop-c
 decreases-loop-c l = l.left
