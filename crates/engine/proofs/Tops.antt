@@ -59,3 +59,9 @@ pub lowest_under : (xs ys : List Frame) (k : ℕ) (d : Frame) → take k ys ≡ 
 lowest_under xs ys k d e p l =
     let one : k ≡ k - 1 + 1 = omega arith in
     ap (lowest_frames xs) one ∙ lowest_top xs (k - 1) d (omega arith) ∙ ap (λ g. frame_of g ∷ lowest_frames xs (k - 1)) (sym (get_or_same xs ys k (k - 1) d e (omega arith)))
+
+-- the topmost of the n lowest
+pub lowest_old : (fs : List Frame) (n : ℕ) (d : Frame) → 0 < n → n ≤ length fs → lowest_frames fs n ≡ frame_of (get_or fs (n - 1) d) ∷ lowest_frames fs (n - 1)
+lowest_old fs n d p l =
+    let one : n ≡ n - 1 + 1 = omega arith in
+    ap (lowest_frames fs) one ∙ lowest_top fs (n - 1) d (omega arith)

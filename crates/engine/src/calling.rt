@@ -7,12 +7,11 @@ ghost use Rattle.jinja.specs.Values.{fit_all};
 ghost use Rattle.tables.specs.Views.{program_of};
 ghost use Rattle.engine.specs.Limits.{register_limit};
 ghost use Rattle.engine.specs.Ready.{Ready};
-ghost use Rattle.engine.specs.Views.{lowest_frames, frames_of, meaning_of};
+ghost use Rattle.engine.specs.Views.{frames_of, meaning_of};
 ghost use Rattle.engine.specs.Stepping.{top_stack, settle, Steps};
 ghost use Rattle.engine.specs.Calling.{arguments, fresh, call_top, above};
 
 use crate::fitting::fit_all;
-use crate::frame::Frame;
 use crate::frames::{Frames, MAX_FRAMES};
 use crate::next::Next;
 use crate::objects::{class_at, raise};
@@ -79,7 +78,8 @@ impl Frames {
         requires high { n ≤ length (top_stack (frames_of self.now)) }
         ensures { result ≡ fit_all (program_of tables.now) (H.Heap.meaning heap.now) (arguments n (top_stack (frames_of self.now))) types.now }
     {
-        arguments_fit_at(tables, heap, &self.frames, self.count - 1, n, types)
+        let operands = self.frames[self.count - 1].arguments(n);
+        fit_all(tables, heap, operands, types)
     }
 
     // A frame of the method `k` on top, for this object and the `n` topmost operands, where there is room.
@@ -95,20 +95,4 @@ impl Frames {
         self.open_above(k, this, n, extras);
         Some(Next::Goes)
     }
-}
-
-// Whether the `n` topmost operands of the frame at `top` fit the types.
-fn arguments_fit_at<H: Heap>(
-    tables: &Tables,
-    heap: &H,
-    frames: &[Frame],
-    top: usize,
-    n: usize,
-    types: &[Ty],
-) -> bool
-    requires within { top < length frames.now }
-    requires high { n ≤ length (top_stack (lowest_frames frames.now (top + 1))) }
-    ensures { result ≡ fit_all (program_of tables.now) (H.Heap.meaning heap.now) (arguments n (top_stack (lowest_frames frames.now (top + 1)))) types.now }
-{
-    fit_all(tables, heap, frames[top].arguments(n), types)
 }

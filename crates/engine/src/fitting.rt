@@ -54,7 +54,7 @@ pub(crate) fn fit_all<H: Heap>(tables: &Tables, heap: &H, values: &[Value], type
     true
 }
 
-// The same where there are no objects.
+// The same where there are no objects. (No test passed in: what a test says of each pair would be longer than this loop.)
 pub(crate) fn fit_alone(tables: &Tables, values: &[Value], types: &[Ty]) -> bool
     ensures { (ls : List ChargeLine) → result ≡ fit_all (program_of tables.now) (vacant ls) values.now types.now }
 {

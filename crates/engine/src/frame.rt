@@ -10,7 +10,7 @@ pub const CELLS: usize = 16;
 pub const REGISTERS: usize = 16;
 
 /// A frame: the first `height` cells are the operand stack, the bottom first, and the first `register_count` registers
-/// are the method's.
+/// are the method's. (Arrays with counts: the bounded stack lies over such cells, and a call writes only the registers that it has.)
 #[derive(Clone, Copy)]
 pub struct Frame {
     pub(crate) method: usize,

@@ -9,7 +9,7 @@ use crate::frame::Frame;
 /// The most frames that stand.
 pub const MAX_FRAMES: usize = 32;
 
-/// The first `count` frames stand, the top one last.
+/// The first `count` frames stand, the top one last. (An array with a count: a filled list hands out no frame to be changed in place.)
 #[derive(Drop)]
 pub struct Frames {
     pub(crate) frames: [Frame; MAX_FRAMES],

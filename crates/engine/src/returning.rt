@@ -5,7 +5,7 @@ ghost use Rattle.jinja.specs.Lookups.{Owned};
 ghost use Rattle.jinja.specs.declared.instr.Instr.TheVariants as instrs;
 ghost use Rattle.jinja.specs.Step.{Frame as Activation, return_to};
 ghost use Rattle.engine.specs.Limits.{cell_limit};
-ghost use Rattle.engine.specs.Views.{frame_of, lowest_frames, frames_of, meaning_of};
+ghost use Rattle.engine.specs.Views.{frame_of, frames_of, meaning_of};
 ghost use Rattle.engine.specs.Stepping.{top_stack, past_with, exec_top, settle};
 ghost use Rattle.engine.specs.Calling.{below, Resumes};
 
@@ -65,7 +65,7 @@ impl Frames {
         requires some { 2 ≤ self.now.count }
         ensures { Resumes (meaning_of program.entry) n (below (frames_of self.now)) result }
     {
-        resumes_at(program, &self.frames, self.count - 2, n)
+        resumes(program, &self.frames[self.count - 2], n)
     }
 
     // Without the top frame, the one below goes on with a value for its `n` topmost operands.
@@ -80,14 +80,7 @@ impl Frames {
     }
 }
 
-// Whether the frame at `k` can take a value for `n` arguments and the receiver.
-fn resumes_at(program: Program, frames: &[Frame], k: usize, n: usize) -> bool
-    requires within { k < length frames.now }
-    ensures { Resumes (meaning_of program.entry) n (lowest_frames frames.now (k + 1)) result }
-{
-    resumes(program, &frames[k], n)
-}
-
+// Whether this frame can take a value for `n` arguments and the receiver.
 fn resumes(program: Program, frame: &Frame, n: usize) -> bool
     ensures { (rest : List Activation) → Resumes (meaning_of program.entry) n (frame_of frame.now ∷ rest) result }
 {

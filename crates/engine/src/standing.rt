@@ -13,6 +13,8 @@ use crate::next::Next;
 use heap::value::Value;
 use jinja::instr::Instr;
 
+// Each move stands over a slice of frames too: a `&mut` call on an element of a field got no proof.
+
 // An instruction that moves the frame at `top` alone.
 #[inline]
 fn local_at(
@@ -30,36 +32,6 @@ fn local_at(
 {
     frames[top].local(height, size, instr)?;
     Some(Next::Goes)
-}
-
-// The operand of the frame at `top` with `i` above it.
-fn operand_at(frames: &[Frame], top: usize, i: usize) -> Option<Value>
-    requires { top < length frames.now }
-    ensures { result ≡ slice_get (top_stack (lowest_frames frames.now (top + 1))) i }
-{
-    frames[top].operand(i)
-}
-
-fn height_at(frames: &[Frame], top: usize) -> usize
-    requires { top < length frames.now }
-    ensures height { result ≡ length (top_stack (lowest_frames frames.now (top + 1))) }
-    ensures low { result ≤ cell_limit }
-{
-    frames[top].height
-}
-
-fn method_at(frames: &[Frame], top: usize) -> usize
-    requires { top < length frames.now }
-    ensures { result ≡ top_method (lowest_frames frames.now (top + 1)) }
-{
-    frames[top].method
-}
-
-fn pc_at(frames: &[Frame], top: usize) -> usize
-    requires { top < length frames.now }
-    ensures { result ≡ top_pc (lowest_frames frames.now (top + 1)) }
-{
-    frames[top].pc
 }
 
 // The frame at `top` goes on without its `n` topmost operands.
@@ -91,7 +63,7 @@ impl Frames {
         requires { 0 < self.now.count }
         ensures { result ≡ top_method (frames_of self.now) }
     {
-        method_at(&self.frames, self.count - 1)
+        self.frames[self.count - 1].method
     }
 
     // Where the top frame stands in its code.
@@ -99,7 +71,7 @@ impl Frames {
         requires { 0 < self.now.count }
         ensures { result ≡ top_pc (frames_of self.now) }
     {
-        pc_at(&self.frames, self.count - 1)
+        self.frames[self.count - 1].pc
     }
 
     // The operand of the top frame with `i` above it.
@@ -109,7 +81,7 @@ impl Frames {
         if self.count == 0 {
             return None;
         }
-        operand_at(&self.frames, self.count - 1, i)
+        self.frames[self.count - 1].operand(i)
     }
 
     // How many operands the top frame has.
@@ -120,7 +92,7 @@ impl Frames {
         if self.count == 0 {
             return 0;
         }
-        height_at(&self.frames, self.count - 1)
+        self.frames[self.count - 1].height
     }
 
     // The top frame goes on without its `n` topmost operands.

@@ -9,7 +9,7 @@ ghost use Rattle.engine.specs.Moving.{sum_of};
 use heap::value::Value;
 use jinja::instr::Literal;
 
-// What Push puts on the operand stack.
+// What Push puts on the operand stack. (No `From`: neither type is of this crate.)
 pub(crate) fn value_of(literal: Literal) -> Value
     ensures { result ≡ literal_value literal }
 {
