@@ -3,12 +3,12 @@ ghost use Rattle.std.specs.Prelude.{◌≡◌, ◌+◌, ◌<◌, ◌≤◌, leng
 ghost use Rattle.jinja.specs.declared.instr.Instr.TheVariants as instrs;
 ghost use Rattle.jinja.specs.Values.{start_value, start_row};
 ghost use Rattle.tables.specs.Views.{program_of};
-ghost use Rattle.engine.specs.Limits.{cell_limit};
 ghost use Rattle.engine.specs.Ready.{Ready};
 ghost use Rattle.engine.specs.Views.{frames_of, meaning_of};
 ghost use Rattle.engine.specs.Stepping.{Steps};
 ghost use Rattle.engine.specs.Creating.{appended, created, Started, SameFrom};
 
+use crate::bounds::Bounds;
 use crate::frames::Frames;
 use crate::next::Next;
 use crate::objects::raise;
@@ -26,17 +26,16 @@ pub(crate) fn create<H: Heap>(
     program: Program,
     heap: &mut H,
     frames: &mut Frames,
-    height: usize,
+    bounds: Bounds,
     c: ClassNumber,
 ) -> Option<Next>
     requires ready { Ready frames.old }
-    requires low { height ≤ cell_limit }
-    ensures { Steps (meaning_of program.entry) height (instrs.New c) (H.Heap.meaning heap.old) (frames_of frames.old) result (H.Heap.meaning heap.new) (frames_of frames.new) }
+    ensures { Steps (meaning_of program.entry) bounds.height (instrs.New c) (H.Heap.meaning heap.old) (frames_of frames.old) result (H.Heap.meaning heap.new) (frames_of frames.new) }
 {
     if !program.tables.is_class(c) {
         return None;
     }
-    if frames.height() >= height {
+    if frames.height() >= bounds.height {
         return None;
     }
     match add_object(program.tables, heap, c) {
@@ -70,6 +69,7 @@ fn append<H: Heap>(heap: &mut H, c: ClassNumber, row: &[Value]) -> Option<u16>
 }
 
 // Writes the values that the fields of an object of class `c` start with: those of the class last, and so upward.
+// (By hand: class, place and the steps left go down together.)
 fn start_row(tables: &Tables, c: ClassNumber, row: &mut [Value])
     requires { length row.old ≡ length (start_row (program_of tables.now) c) }
     ensures { row.new ≡ start_row (program_of tables.now) c }

@@ -1,6 +1,7 @@
 //! The step of a running machine over any heap: frames in fixed memory, and each instruction on them.
 #![tactic(auto)]
 
+mod bounds;
 mod calling;
 mod catching;
 mod creating;

@@ -1,32 +1,31 @@
 // The instructions that move the top frame alone. Where a check of one is not passed it has no answer, and the frame stays.
-ghost use Rattle.std.specs.Prelude.{◌<◌, ◌≤◌};
+ghost use Rattle.std.specs.Prelude.{◌<◌};
 ghost use Rattle.format.specs.Limits.{max_instrs};
 ghost use Rattle.jinja.specs.declared.instr.Instr.TheVariants as instrs;
-ghost use Rattle.engine.specs.Limits.{cell_limit};
 ghost use Rattle.engine.specs.Views.{frame_of};
 ghost use Rattle.engine.specs.Moving.{MovesAlways, MovesUnder, MovesWithin, MovesLocally};
 
+use crate::bounds::Bounds;
 use crate::frame::Frame;
 use crate::values::{boolean, place_from, sum, value_of};
 use heap::value::Value;
 use jinja::instr::{Instr, Literal};
 
 impl Frame {
-    // An instruction of a method of this greatest height and so many instructions; those that do more are refused.
-    pub(crate) fn local(&mut self, height: usize, size: usize, instr: Instr) -> Option<()>
+    // An instruction of a method with these bounds; those that do more are refused.
+    pub(crate) fn local(&mut self, bounds: Bounds, instr: Instr) -> Option<()>
         requires inside { self.old.pc < max_instrs }
-        requires low { height ≤ cell_limit }
-        ensures { MovesLocally height size instr (frame_of self.old) result (frame_of self.new) }
+        ensures { MovesLocally bounds.height bounds.size instr (frame_of self.old) result (frame_of self.new) }
     {
         match instr {
-            Instr::Load(n) => self.load(height, n),
+            Instr::Load(n) => self.load(bounds, n),
             Instr::Store(n) => self.store(n),
-            Instr::Push(literal) => self.push(height, literal),
+            Instr::Push(literal) => self.push(bounds, literal),
             Instr::Pop => self.pop(),
-            Instr::IAdd => self.add(height),
-            Instr::CmpEq => self.compare(height),
-            Instr::IfFalse(offset) => self.branch(size, offset),
-            Instr::Goto(offset) => self.jump(size, offset),
+            Instr::IAdd => self.add(bounds),
+            Instr::CmpEq => self.compare(bounds),
+            Instr::IfFalse(offset) => self.branch(bounds.size, offset),
+            Instr::Goto(offset) => self.jump(bounds.size, offset),
             Instr::New(_) => None,
             Instr::Getfield(_, _) => None,
             Instr::Putfield(_, _) => None,
@@ -37,13 +36,12 @@ impl Frame {
         }
     }
 
-    pub(crate) fn load(&mut self, height: usize, n: u8) -> Option<()>
+    pub(crate) fn load(&mut self, bounds: Bounds, n: u8) -> Option<()>
         requires inside { self.old.pc < max_instrs }
-        requires low { height ≤ cell_limit }
-        ensures { MovesUnder height (instrs.Load n) (frame_of self.old) result (frame_of self.new) }
+        ensures { MovesUnder bounds.height (instrs.Load n) (frame_of self.old) result (frame_of self.new) }
     {
         let value = self.register(n as usize)?;
-        self.onward(height, self.height, value)
+        self.onward(bounds, self.height, value)
     }
 
     pub(crate) fn store(&mut self, n: u8) -> Option<()>
@@ -60,12 +58,11 @@ impl Frame {
         Some(())
     }
 
-    pub(crate) fn push(&mut self, height: usize, literal: Literal) -> Option<()>
+    pub(crate) fn push(&mut self, bounds: Bounds, literal: Literal) -> Option<()>
         requires inside { self.old.pc < max_instrs }
-        requires low { height ≤ cell_limit }
-        ensures { MovesUnder height (instrs.Push literal) (frame_of self.old) result (frame_of self.new) }
+        ensures { MovesUnder bounds.height (instrs.Push literal) (frame_of self.old) result (frame_of self.new) }
     {
-        self.onward(height, self.height, value_of(literal))
+        self.onward(bounds, self.height, value_of(literal))
     }
 
     pub(crate) fn pop(&mut self) -> Option<()>
@@ -78,24 +75,22 @@ impl Frame {
     }
 
     // IAdd.
-    pub(crate) fn add(&mut self, height: usize) -> Option<()>
+    pub(crate) fn add(&mut self, bounds: Bounds) -> Option<()>
         requires inside { self.old.pc < max_instrs }
-        requires low { height ≤ cell_limit }
-        ensures { MovesUnder height instrs.IAdd (frame_of self.old) result (frame_of self.new) }
+        ensures { MovesUnder bounds.height instrs.IAdd (frame_of self.old) result (frame_of self.new) }
     {
         let (v, w) = self.two()?;
         let total = sum(v, w)?;
-        self.onward(height, self.height - 2, total)
+        self.onward(bounds, self.height - 2, total)
     }
 
     // CmpEq.
-    pub(crate) fn compare(&mut self, height: usize) -> Option<()>
+    pub(crate) fn compare(&mut self, bounds: Bounds) -> Option<()>
         requires inside { self.old.pc < max_instrs }
-        requires low { height ≤ cell_limit }
-        ensures { MovesUnder height instrs.CmpEq (frame_of self.old) result (frame_of self.new) }
+        ensures { MovesUnder bounds.height instrs.CmpEq (frame_of self.old) result (frame_of self.new) }
     {
         let (v, w) = self.two()?;
-        self.onward(height, self.height - 2, Value::Bool(w == v))
+        self.onward(bounds, self.height - 2, Value::Bool(w == v))
     }
 
     // IfFalse.

@@ -10,6 +10,7 @@ ghost use Rattle.engine.specs.Views.{frame_of};
 ghost use Rattle.engine.specs.Moving.{Onward};
 ghost use Rattle.engine.specs.Calling.{arguments};
 
+use crate::bounds::Bounds;
 use crate::frame::Frame;
 use heap::value::Value;
 use stack::Stack;
@@ -45,13 +46,12 @@ impl Frame {
     }
 
     // On to the next instruction, with a value on top of the lowest `keep` cells, if these are lower than the greatest height.
-    pub(crate) fn onward(&mut self, height: usize, keep: usize, value: Value) -> Option<()>
+    pub(crate) fn onward(&mut self, bounds: Bounds, keep: usize, value: Value) -> Option<()>
         requires inside { self.old.pc < max_instrs }
-        requires low { height ≤ cell_limit }
         requires kept { keep ≤ cell_limit }
-        ensures { Onward height (frame_of self.old) (held self.old.cells keep) value result (frame_of self.new) }
+        ensures { Onward bounds.height (frame_of self.old) (held self.old.cells keep) value result (frame_of self.new) }
     {
-        if keep >= height {
+        if keep >= bounds.height {
             return None;
         }
         self.go_with(self.pc + 1, keep, value);

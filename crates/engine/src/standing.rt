@@ -7,6 +7,7 @@ ghost use Rattle.engine.specs.Ready.{Ready};
 ghost use Rattle.engine.specs.Views.{lowest_frames, frames_of};
 ghost use Rattle.engine.specs.Stepping.{top_method, top_pc, top_stack, past, past_with, StepsLocally};
 
+use crate::bounds::Bounds;
 use crate::frame::Frame;
 use crate::frames::Frames;
 use crate::next::Next;
@@ -17,20 +18,13 @@ use jinja::instr::Instr;
 
 // An instruction that moves the frame at `top` alone.
 #[inline]
-fn local_at(
-    frames: &mut [Frame],
-    top: usize,
-    height: usize,
-    size: usize,
-    instr: Instr,
-) -> Option<Next>
+fn local_at(frames: &mut [Frame], top: usize, bounds: Bounds, instr: Instr) -> Option<Next>
     requires top { top < length frames.old }
     requires inside { top_pc (lowest_frames frames.old (top + 1)) < max_instrs }
-    requires low { height ≤ cell_limit }
-    ensures after { StepsLocally height size instr (lowest_frames frames.old (top + 1)) result (lowest_frames frames.new (top + 1)) }
+    ensures after { StepsLocally bounds.height bounds.size instr (lowest_frames frames.old (top + 1)) result (lowest_frames frames.new (top + 1)) }
     ensures below { take top frames.new ≡ take top frames.old }
 {
-    frames[top].local(height, size, instr)?;
+    frames[top].local(bounds, instr)?;
     Some(Next::Goes)
 }
 
@@ -114,13 +108,12 @@ impl Frames {
         pass_with_at(&mut self.frames, self.count - 1, n, value);
     }
 
-    // An instruction that moves the top frame alone, of a method of this greatest height and so many instructions.
+    // An instruction that moves the top frame alone, of a method with these bounds.
     #[inline]
-    pub(crate) fn local(&mut self, height: usize, size: usize, instr: Instr) -> Option<Next>
+    pub(crate) fn local(&mut self, bounds: Bounds, instr: Instr) -> Option<Next>
         requires ready { Ready self.old }
-        requires low { height ≤ cell_limit }
-        ensures { StepsLocally height size instr (frames_of self.old) result (frames_of self.new) }
+        ensures { StepsLocally bounds.height bounds.size instr (frames_of self.old) result (frames_of self.new) }
     {
-        local_at(&mut self.frames, self.count - 1, height, size, instr)
+        local_at(&mut self.frames, self.count - 1, bounds, instr)
     }
 }

@@ -8,6 +8,7 @@ ghost use Rattle.engine.specs.Ready.{Ready};
 ghost use Rattle.engine.specs.Views.{frames_of, meaning_of};
 ghost use Rattle.engine.specs.Stepping.{exec_top, settle, Recorded};
 
+use crate::bounds::Bounds;
 use crate::calling::invoke;
 use crate::creating::create;
 use crate::fields::getfield;
@@ -45,7 +46,8 @@ fn step_in<H: Heap>(program: Program, heap: &mut H, frames: &mut Frames) -> Opti
     exec(program, heap, frames, method, code.len(), code[pc])
 }
 
-// An instruction of a method of this record and so many instructions.
+// An instruction of a method of this record and so many instructions. (Heap and frames stay two parameters: a struct of two
+// `&mut` would have to say in each contract that both still stand at the same place.)
 fn exec<H: Heap>(
     program: Program,
     heap: &mut H,
@@ -59,14 +61,15 @@ fn exec<H: Heap>(
     ensures { (M : Owned) → Recorded M method size → (result, H.Heap.meaning heap.new, frames_of frames.new) ≡ settle (H.Heap.meaning heap.old) (frames_of frames.old) (exec_top (meaning_of program.entry) instr (H.Heap.meaning heap.old) M (frames_of frames.old)) }
 {
     let height = method.height as usize;
+    let bounds = Bounds { height, size };
     match instr {
-        Instr::New(c) => create(program, heap, frames, height, c),
+        Instr::New(c) => create(program, heap, frames, bounds, c),
         Instr::Getfield(name, c) => getfield(program, heap, frames, height, name, c),
         Instr::Putfield(name, c) => putfield(program, heap, frames, height, name, c),
         Instr::Checkcast(c) => checkcast(program, heap, frames, height, c),
         Instr::Invoke(name, n) => invoke(program, heap, frames, height, name, n),
         Instr::Return => { return_value(program, heap, frames, method.result, method.params.count) }
         Instr::Throw => throw(program, heap, frames, height),
-        _ => frames.local(height, size, instr),
+        _ => frames.local(bounds, instr),
     }
 }

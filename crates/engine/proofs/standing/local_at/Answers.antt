@@ -6,7 +6,7 @@ use Rattle.engine.proofs.standing.local_at.Goals as goal
 pub local-requires : goal.local-requires
 local-requires c =
     let t = lowest_top c.args.frames.now c.args.top c.index-frames-top.result c.requires.top in
-    record { inside = rw t at c.requires.inside; low = c.requires.low }
+    record { inside = rw t at c.requires.inside }
 
 pub returns : goal.returns
 returns c =

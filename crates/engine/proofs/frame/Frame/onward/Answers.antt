@@ -6,8 +6,8 @@ use Rattle.engine.specs.Views.{frame_of}
 use Rattle.engine.proofs.Reading.{held_length}
 use Rattle.engine.proofs.frame.Frame.onward.Goals as goal
 
-pub returns-then-keep-height : goal.returns-then-keep-height
-returns-then-keep-height c =
+pub returns-then-keep-bounds : goal.returns-then-keep-bounds
+returns-then-keep-bounds c =
     let l = held_length c.args.self.now.cells c.args.keep (omega arith) in
     record { told = sym (le-ltb _ _ (omega (arith, l))); moved = λ e. absurd (false≢true e); kept = λ _. refl }
 

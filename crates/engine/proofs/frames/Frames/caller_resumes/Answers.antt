@@ -1,4 +1,4 @@
-use Rattle.std.proofs.Common.{◌≡◌, ◌-◌, ap, ◌∙◌, arith}
+use Rattle.std.proofs.Common.{◌≡◌, ◌-◌, arith}
 use Rattle.engine.specs.Views.{lowest_frames}
 use Rattle.engine.proofs.Tops.{lowest_below, lowest_old}
 use Rattle.engine.proofs.frames.Frames.caller_resumes.Goals as goal
