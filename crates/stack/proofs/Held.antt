@@ -6,11 +6,6 @@ use Rattle.stack.specs.Stacked.{held}
 pub held_push : {X : Type 0} (xs : List X) (h : ℕ) (x : X) → h < length xs → held (set xs h x) (h + 1) ≡ x ∷ held xs h
 held_push xs h x l = ap reverse (take_more_set xs h x l) ∙ reverse-append (take h xs) (x ∷ [])
 
-pub held_replace : {X : Type 0} (xs : List X) (h : ℕ) (x : X) → 0 < h → h ≤ length xs → held (set xs (h - 1) x) h ≡ x ∷ held xs (h - 1)
-held_replace xs h x p l =
-    let e : h ≡ (h - 1) + 1 = omega arith in
-    ap (held (set xs (h - 1) x)) e ∙ held_push xs (h - 1) x (omega arith)
-
 pub held_top : {X : Type 0} (xs : List X) (h : ℕ) (d : X) → 0 < h → h ≤ length xs → held xs h ≡ get_or xs (h - 1) d ∷ held xs (h - 1)
 held_top xs h d p l =
     let e : h ≡ (h - 1) + 1 = omega arith in
