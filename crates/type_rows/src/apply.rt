@@ -1,5 +1,5 @@
 // One instruction from one row of numbers to another.
-ghost use Rattle.std.specs.Prelude.{◌≡◌, ◌≤◌, length, OnSome};
+ghost use Rattle.std.specs.Prelude.{◌≡◌, length, OnSome};
 ghost use Rattle.type_rows.specs.Numbers.{width};
 ghost use Rattle.type_rows.specs.Registers.{Told};
 ghost use Rattle.type_rows.specs.RowSteps.{row_types, Reached, RowSteps};
@@ -7,20 +7,19 @@ ghost use Rattle.type_rows.specs.RowSteps.{row_types, Reached, RowSteps};
 use crate::frame::TypeFrame;
 use crate::leads::Leads;
 use crate::method::Method;
-use jinja::instr::Instr;
+use crate::site::Site;
 
 impl<'a> Method<'a> {
-    // The instruction at `pc` from a row that is reached: where it leads, and in `out` the row that the successors get.
-    pub(crate) fn apply(&self, i: Instr, pc: usize, row: &[u16], out: &mut [u16]) -> Option<Leads>
-        requires place { pc ≤ 256 }
+    // The instruction from a row that is reached: where it leads, and in `out` the row that the successors get.
+    pub(crate) fn apply(&self, site: Site, row: &[u16], out: &mut [u16]) -> Option<Leads>
         requires reached { Reached row.now }
         requires told { Told (row_types row.now) }
         requires whole { length out.old ≡ width }
-        ensures sends { RowSteps self.now i pc row.now result out.new }
+        ensures sends { RowSteps self.now site.instr site.pc row.now result out.new }
         ensures reached { OnSome result (Reached out.new) }
     {
         let mut frame = TypeFrame::of(row);
-        let leads = self.step(i, pc, &mut frame)?;
+        let leads = self.step(site, &mut frame)?;
         frame.write(out);
         Some(leads)
     }

@@ -1,5 +1,5 @@
 // A method's instruction as a node of the flow: its edges, and what they send from the row that numbers show.
-ghost use Rattle.std.specs.Prelude.{◌≡◌, ℕ, ◌+◌, ◌<◌, ◌≤◌, true, false, length, ℤ, Some, MatchBool, MatchOption, OnSome, ◌≢◌};
+ghost use Rattle.std.specs.Prelude.{◌≡◌, ℕ, ◌+◌, ◌<◌, true, false, length, ℤ, Some, MatchBool, MatchOption, OnSome, ◌≢◌};
 ghost use Rattle.std.specs.List.{slice_get};
 ghost use Rattle.jinja.specs.declared.program.Handler as handler;
 ghost use Rattle.jinja.specs.Rows as rows;
@@ -15,6 +15,7 @@ ghost use Rattle.type_rows.specs.Taking.{Suits};
 
 use crate::method::Method;
 use crate::row::REGISTERS;
+use crate::site::Site;
 use jinja::instr::Instr;
 
 impl<'a> Method<'a> {
@@ -26,30 +27,22 @@ impl<'a> Method<'a> {
     }
 
     // Writes what an edge of the instruction sends from a row that is reached.
-    fn send_reached(
-        &self,
-        i: Instr,
-        pc: usize,
-        e: usize,
-        row: &[u16],
-        out: &mut [u16],
-    ) -> Option<usize>
-        requires place { pc ≤ 256 }
+    fn send_reached(&self, site: Site, e: usize, row: &[u16], out: &mut [u16]) -> Option<usize>
         requires reached { Reached row.now }
         requires told { Told (row_types row.now) }
-        requires suits { (j : ℕ) (x : handler.Handler) → slice_get (owned self.now).method.handlers j ≡ Some x → is_relevant (program self.now) i pc x ≡ true → Suits (program self.now) (owned self.now) (row_types row.now) x }
+        requires suits { (j : ℕ) (x : handler.Handler) → slice_get (owned self.now).method.handlers j ≡ Some x → is_relevant (program self.now) site.instr site.pc x ≡ true → Suits (program self.now) (owned self.now) (row_types row.now) x }
         requires whole { length out.old ≡ width }
-        ensures sends { flow.edge_of (program self.now) (owned self.now) i pc e (row_types row.now) (row_cells self.now.registers row.now) ≡ sent_to result (row_types out.new) (row_cells self.now.registers out.new) }
+        ensures sends { flow.edge_of (program self.now) (owned self.now) site.instr site.pc e (row_types row.now) (row_cells self.now.registers row.now) ≡ sent_to result (row_types out.new) (row_cells self.now.registers out.new) }
         ensures reached { OnSome result (Reached out.new) }
     {
-        if e == 1 && !branches(i) {
+        if e == 1 && !branches(site.instr) {
             return None;
         }
         if e < 2 {
-            return self.send_next(i, pc, e, row, out);
+            return self.send_next(site, e, row, out);
         }
         let handler = *self.handlers().get(e - 2)?;
-        self.send_to_handler(i, pc, handler, row, out)
+        self.send_to_handler(site, handler, row, out)
     }
 
     // Writes what edge `e` of the instruction at `pc` sends from the row, and answers where to; `None` where it sends
@@ -66,8 +59,8 @@ impl<'a> Method<'a> {
         if row[0] == 0 || row[0] as usize > REGISTERS {
             return None;
         }
-        let i = self.instr(pc)?;
-        self.send_reached(i, pc, e, row, out)
+        let site = self.site(pc)?;
+        self.send_reached(site, e, row, out)
     }
 }
 

@@ -6,6 +6,7 @@ ghost use Rattle.type_rows.specs.Refusing.{handler_suits, handler_passes, handle
 ghost use Rattle.type_rows.specs.Stepping.{program, owned};
 
 use crate::method::Method;
+use crate::site::Site;
 use jinja::instr::Instr;
 use jinja::program::{CLASS_CAST, ClassNumber, Handler, NULL_POINTER, OUT_OF_MEMORY};
 use tables::tables::Tables;
@@ -31,11 +32,11 @@ fn covers(handler: Handler, pc: usize) -> bool
 }
 
 impl<'a> Method<'a> {
-    /// Whether the instruction at `pc` must reckon with the handler.
-    pub(crate) fn is_relevant(&self, i: Instr, pc: usize, handler: Handler) -> bool
-        ensures { result ≡ is_relevant (program self.now) i pc handler }
+    /// Whether the instruction must reckon with the handler.
+    pub(crate) fn is_relevant(&self, site: Site, handler: Handler) -> bool
+        ensures { result ≡ is_relevant (program self.now) site.instr site.pc handler }
     {
-        covers(handler, pc) && may_throw(self.tables, i, handler.class)
+        covers(handler, site.pc) && may_throw(self.tables, site.instr, handler.class)
     }
 
     // Whether the handler's class exists, its depth suits a stack of this height, and its target lies in the code.
@@ -49,18 +50,18 @@ impl<'a> Method<'a> {
     }
 
     // Whether the handler is not relevant, or suits.
-    fn passes(&self, i: Instr, pc: usize, height: usize, handler: Handler) -> bool
-        ensures { result ≡ handler_passes (program self.now) i pc height (owned self.now).method.height (length (owned self.now).method.code) handler }
+    fn passes(&self, site: Site, height: usize, handler: Handler) -> bool
+        ensures { result ≡ handler_passes (program self.now) site.instr site.pc height (owned self.now).method.height (length (owned self.now).method.code) handler }
     {
-        !self.is_relevant(i, pc, handler) || self.suits(handler, height)
+        !self.is_relevant(site, handler) || self.suits(handler, height)
     }
 
     /// Whether each relevant handler suits a stack of this height.
-    pub(crate) fn all_pass(&self, i: Instr, pc: usize, height: usize) -> bool
-        ensures { result ≡ handlers_pass (program self.now) i pc height (owned self.now).method.height (length (owned self.now).method.code) (owned self.now).method.handlers }
+    pub(crate) fn all_pass(&self, site: Site, height: usize) -> bool
+        ensures { result ≡ handlers_pass (program self.now) site.instr site.pc height (owned self.now).method.height (length (owned self.now).method.code) (owned self.now).method.handlers }
     {
         self.handlers()
             .iter()
-            .all(|handler| self.passes(i, pc, height, *handler))
+            .all(|handler| self.passes(site, height, *handler))
     }
 }

@@ -21,8 +21,8 @@ impl<'a> Method<'a> {
         if row[0] as usize > REGISTERS {
             return true;
         }
-        match self.instr(pc) {
-            Some(i) => self.refuses_reached(i, pc, row),
+        match self.site(pc) {
+            Some(site) => self.refuses_reached(site, row),
             None => true,
         }
     }

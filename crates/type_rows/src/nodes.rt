@@ -1,5 +1,5 @@
 // A method as a flow: its nodes, their handlers, and the row of a node that nothing has reached.
-ghost use Rattle.std.specs.Prelude.{◌≡◌, length};
+ghost use Rattle.std.specs.Prelude.{◌≡◌, ◌<◌, length, Some, None, MatchOption};
 ghost use Rattle.std.specs.List.{slice_get};
 ghost use Rattle.jinja.specs.Rows as rows;
 ghost use Rattle.type_rows.specs.Merging.{merged};
@@ -8,7 +8,7 @@ ghost use Rattle.type_rows.specs.Stepping.{program, owned};
 
 use crate::method::Method;
 use crate::row::write_unreached;
-use jinja::instr::Instr;
+use crate::site::Site;
 use jinja::program::Handler;
 
 impl<'a> Method<'a> {
@@ -21,10 +21,12 @@ impl<'a> Method<'a> {
     }
 
     // The instruction at `pc`.
-    pub(crate) fn instr(&self, pc: usize) -> Option<Instr>
-        ensures { result ≡ slice_get (owned self.now).method.code pc }
+    pub(crate) fn site(&self, pc: usize) -> Option<Site>
+        requires { pc < length (owned self.now).method.code }
+        ensures { MatchOption result (slice_get (owned self.now).method.code pc ≡ None) (λ s. (slice_get (owned self.now).method.code pc ≡ Some s.instr) × (s.pc ≡ pc)) }
     {
-        self.tables.instr(self.number, pc)
+        let instr = self.tables.instr(self.number, pc)?;
+        Some(Site { instr, pc })
     }
 
     // Its exception table.

@@ -1,5 +1,5 @@
 // What the edges of an instruction send from a reached row: to its successors, and to the targets of its handlers.
-ghost use Rattle.std.specs.Prelude.{◌≡◌, ◌<◌, ◌≤◌, true, List, length, OnSome};
+ghost use Rattle.std.specs.Prelude.{◌≡◌, true, List, length, OnSome};
 ghost use Rattle.jinja.specs.declared.ty.Ty as ty;
 ghost use Rattle.jinja.specs.Classes.{maybe};
 ghost use Rattle.jinja.specs.Rows.{Cell};
@@ -18,46 +18,43 @@ ghost use Rattle.type_rows.specs.Taking.{Suits};
 use crate::catch::catch;
 use crate::leads::Leads;
 use crate::method::Method;
-use jinja::instr::Instr;
+use crate::site::Site;
 use jinja::program::Handler;
 
 impl<'a> Method<'a> {
     // Writes what the first or the second successor gets, and answers where it stands.
     pub(crate) fn send_next(
         &self,
-        i: Instr,
-        pc: usize,
+        site: Site,
         e: usize,
         row: &[u16],
         out: &mut [u16],
     ) -> Option<usize>
-        requires place { pc ≤ 256 }
         requires reached { Reached row.now }
         requires told { Told (row_types row.now) }
         requires whole { length out.old ≡ width }
-        ensures sends { maybe (transfer (program self.now) (owned self.now) i pc (row_types row.now) (row_cells self.now.registers row.now)) nothing (λ es. sent_at es e) ≡ sent_to result (row_types out.new) (row_cells self.now.registers out.new) }
+        ensures sends { maybe (transfer (program self.now) (owned self.now) site.instr site.pc (row_types row.now) (row_cells self.now.registers row.now)) nothing (λ es. sent_at es e) ≡ sent_to result (row_types out.new) (row_cells self.now.registers out.new) }
         ensures reached { OnSome result (Reached out.new) }
     {
-        let to = self.apply(i, pc, row, out)?;
-        place_of(to, pc, e)
+        let to = self.apply(site, row, out)?;
+        place_of(to, site, e)
     }
 
     // Writes what the target of a handler gets, and answers where it stands; `None` where the handler is not relevant.
     pub(crate) fn send_to_handler(
         &self,
-        i: Instr,
-        pc: usize,
+        site: Site,
         handler: Handler,
         row: &[u16],
         out: &mut [u16],
     ) -> Option<usize>
         requires reached { Reached row.now }
-        requires suits { is_relevant (program self.now) i pc handler ≡ true → Suits (program self.now) (owned self.now) (row_types row.now) handler }
+        requires suits { is_relevant (program self.now) site.instr site.pc handler ≡ true → Suits (program self.now) (owned self.now) (row_types row.now) handler }
         requires whole { length out.old ≡ width }
-        ensures sends { to_handler (program self.now) handler i pc (row_types row.now) (row_cells self.now.registers row.now) ≡ sent_to result (row_types out.new) (row_cells self.now.registers out.new) }
+        ensures sends { to_handler (program self.now) handler site.instr site.pc (row_types row.now) (row_cells self.now.registers row.now) ≡ sent_to result (row_types out.new) (row_cells self.now.registers out.new) }
         ensures reached { OnSome result (Reached out.new) }
     {
-        if !self.is_relevant(i, pc, handler) {
+        if !self.is_relevant(site, handler) {
             return None;
         }
         catch(row, handler.depth as usize, handler.class, out);
@@ -66,16 +63,15 @@ impl<'a> Method<'a> {
 }
 
 // Where the first or the second successor stands.
-fn place_of(to: Leads, pc: usize, e: usize) -> Option<usize>
-    requires { pc ≤ 256 }
-    ensures { (st : List ty.Ty) (lt : List Cell) → sent_at (leads to pc st lt) e ≡ sent_to result st lt }
+fn place_of(to: Leads, site: Site, e: usize) -> Option<usize>
+    ensures { (st : List ty.Ty) (lt : List Cell) → sent_at (leads to site.pc st lt) e ≡ sent_to result st lt }
 {
     match to {
         Leads::Nowhere => None,
-        Leads::Next => (e == 0).then_some(pc + 1),
+        Leads::Next => (e == 0).then_some(site.pc + 1),
         Leads::To(q) => (e == 0).then_some(q),
         Leads::Either(q) => match e {
-            0 => Some(pc + 1),
+            0 => Some(site.pc + 1),
             1 => Some(q),
             _ => None,
         },

@@ -1,5 +1,4 @@
 // One instruction over a frame of types.
-ghost use Rattle.std.specs.Prelude.{◌≤◌};
 ghost use Rattle.type_rows.specs.Registers.{Told};
 ghost use Rattle.type_rows.specs.Stepping.{Steps};
 ghost use Rattle.type_rows.specs.TypeFrames.{frame_types};
@@ -7,16 +6,16 @@ ghost use Rattle.type_rows.specs.TypeFrames.{frame_types};
 use crate::frame::TypeFrame;
 use crate::leads::Leads;
 use crate::method::Method;
+use crate::site::Site;
 use jinja::instr::Instr;
 
 impl<'a> Method<'a> {
     // Where the instruction leads, and what its successors get; `None` where a need fails.
-    pub(crate) fn step(&self, i: Instr, pc: usize, frame: &mut TypeFrame) -> Option<Leads>
-        requires place { pc ≤ 256 }
-        requires told { Told (frame_types frame.old) }
-        ensures { Steps self.now i pc frame.old result frame.new }
+    pub(crate) fn step(&self, site: Site, frame: &mut TypeFrame) -> Option<Leads>
+        requires { Told (frame_types frame.old) }
+        ensures { Steps self.now site.instr site.pc frame.old result frame.new }
     {
-        match i {
+        match site.instr {
             Instr::Load(n) => self.step_load(n, frame),
             Instr::Store(n) => self.step_store(n, frame),
             Instr::Push(v) => self.step_push(v, frame),
@@ -29,8 +28,8 @@ impl<'a> Method<'a> {
             Instr::Return => self.step_return(frame),
             Instr::IAdd => self.step_add(frame),
             Instr::CmpEq => self.step_equal(frame),
-            Instr::IfFalse(z) => self.step_if_false(pc, z, frame),
-            Instr::Goto(z) => self.step_goto(pc, z, frame),
+            Instr::IfFalse(z) => self.step_if_false(site, z, frame),
+            Instr::Goto(z) => self.step_goto(site, z, frame),
             Instr::Throw => self.step_throw(frame),
         }
     }

@@ -1,5 +1,5 @@
 // Instructions over registers, the stack and places: what they need, and what their successors get.
-ghost use Rattle.std.specs.Prelude.{ℕ, ◌≤◌};
+ghost use Rattle.std.specs.Prelude.{ℕ};
 ghost use Rattle.type_rows.specs.Registers.{Told};
 ghost use Rattle.type_rows.specs.Stepping.{Steps};
 ghost use Rattle.type_rows.specs.TypeFrames.{frame_types};
@@ -7,7 +7,7 @@ ghost use Rattle.type_rows.specs.TypeFrames.{frame_types};
 use crate::frame::TypeFrame;
 use crate::leads::Leads;
 use crate::method::Method;
-use crate::places::place_from;
+use crate::site::Site;
 use crate::types::lies_below;
 use jinja::instr::{Instr, Literal};
 use jinja::ty::Ty;
@@ -91,24 +91,22 @@ impl<'a> Method<'a> {
     }
 
     // IfFalse: a Boolean, and a place to go to.
-    pub(crate) fn step_if_false(&self, pc: usize, z: i16, frame: &mut TypeFrame) -> Option<Leads>
-        requires { pc ≤ 256 }
-        ensures { Steps self.now (Instr.IfFalse z) pc frame.old result frame.new }
+    pub(crate) fn step_if_false(&self, site: Site, z: i16, frame: &mut TypeFrame) -> Option<Leads>
+        ensures { Steps self.now (Instr.IfFalse z) site.pc frame.old result frame.new }
     {
         let t = frame.pop()?;
         if t != Ty::Boolean {
             return None;
         }
-        let q = place_from(pc, z)?;
+        let q = site.jump(z)?;
         Some(Leads::Either(q))
     }
 
     // Goto: a place to go to.
-    pub(crate) fn step_goto(&self, pc: usize, z: i16, frame: &mut TypeFrame) -> Option<Leads>
-        requires { pc ≤ 256 }
-        ensures { Steps self.now (Instr.Goto z) pc frame.old result frame.new }
+    pub(crate) fn step_goto(&self, site: Site, z: i16, frame: &mut TypeFrame) -> Option<Leads>
+        ensures { Steps self.now (Instr.Goto z) site.pc frame.old result frame.new }
     {
-        let q = place_from(pc, z)?;
+        let q = site.jump(z)?;
         Some(Leads::To(q))
     }
 }

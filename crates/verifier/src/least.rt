@@ -33,13 +33,10 @@ pub fn least_table(
     if workspace.len() < WORKSPACE {
         return Err(LeastTableFault::Short);
     }
-    match accepted.set().tables().sees(class, name) {
-        Some(k) => {
-            write_least(accepted, k, workspace);
-            Ok(())
-        }
-        None => Err(LeastTableFault::Unseen),
-    }
+    let seen = accepted.set().tables().sees(class, name);
+    let k = seen.ok_or(LeastTableFault::Unseen)?;
+    write_least(accepted, k, workspace);
+    Ok(())
 }
 
 // Writes the least well-typing of the method of number `k`, which there is.

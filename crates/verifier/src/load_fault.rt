@@ -64,12 +64,7 @@ fn table_layer(fault: TableFault) -> Layer
 {
     match fault {
         TableFault::Number(_) => Layer::Numbers,
-        TableFault::Outside(_) => Layer::Table,
-        TableFault::Unknown(_) => Layer::Table,
-        TableFault::Classless(_) => Layer::Table,
-        TableFault::Twice(_) => Layer::Table,
-        TableFault::Override(_) => Layer::Table,
-        TableFault::LeftOver(_) => Layer::Table,
+        _ => Layer::Table,
     }
 }
 

@@ -1,8 +1,9 @@
 -- By the first number: nothing has reached the instruction, paths clash, or it is reached.
-use Rattle.std.proofs.Common.{◌≡◌, ◌<◌, ◌≤◌, length, get_or, Some, None, sym, ◌∙◌, subst, arith}
-use Rattle.std.specs.List.{slice_get}
+use Rattle.std.proofs.Common.{ℕ, ◌<◌, ◌≤◌, length, get_or, Some, None, sym, ap, ◌∙◌, subst, arith}
 use Rattle.jinja.specs.Classes.{table}
 use Rattle.jinja.specs.Rows as rows
+use Rattle.jinja.specs.Rows.{reached}
+use Rattle.type_rows.specs.MethodFlow.{refuses_row}
 use Rattle.tables.proofs.Programs.{length_program}
 use Rattle.type_rows.specs.Merging.{InUse}
 use Rattle.type_rows.specs.RowSteps.{row_types, row_cells}
@@ -28,7 +29,6 @@ refuses_reached-requires c =
     let low : get_or row 0 0 ≤ 17 = omega (arith, c.if-row-gt-REGISTERS.false) in
     let few : length (table P) ≤ 32 = omega (arith, length_program t, t.few_classes) in
     record {
-      place = omega (arith, c.requires.node, m.short);
       reached = record { whole = c.requires.row.whole; small = c.requires.row.small; above = above; low = low };
       told = row_in_use_told P M (row_types row) (row_cells n row) few (subst (InUse P M) (read_reached n row above low) c.requires.row.in_use);
     }
@@ -37,15 +37,13 @@ pub returns-in-Some : goal.returns-in-Some
 returns-in-Some c =
     let m = c.args.self.now in
     let row = c.args.row.now in
-    let pc = c.args.pc in
-    let at : slice_get (owned m).method.code pc ≡ Some c.in-Some.i = sym c.instr.ensures ∙ c.in-Some.is in
+    let site = c.in-Some.site in
+    let n = m.registers in
     c.refuses_reached.ensures
-    ∙ sym (refuses_reached (program m) (owned m) pc (rows.registers (owned m)) row (Some c.in-Some.i) m.registers at m.wide (omega (arith, c.if-row-eq0.false)) (omega (arith, c.if-row-gt-REGISTERS.false)))
+    ∙ ap (λ (k : ℕ). refuses_row (program m) (owned m) site.instr k (reached (row_types row) (row_cells n row))) c.in-Some.ensures.1
+    ∙ sym (refuses_reached (program m) (owned m) c.args.pc (rows.registers (owned m)) row (Some site.instr) n c.in-Some.ensures.0 m.wide (omega (arith, c.if-row-eq0.false)) (omega (arith, c.if-row-gt-REGISTERS.false)))
 
 pub returns-in-None : goal.returns-in-None
 returns-in-None c =
     let m = c.args.self.now in
-    let row = c.args.row.now in
-    let pc = c.args.pc in
-    let at : slice_get (owned m).method.code pc ≡ None = sym c.instr.ensures ∙ c.in-None.is in
-    sym (refuses_reached (program m) (owned m) pc (rows.registers (owned m)) row None m.registers at m.wide (omega (arith, c.if-row-eq0.false)) (omega (arith, c.if-row-gt-REGISTERS.false)))
+    sym (refuses_reached (program m) (owned m) c.args.pc (rows.registers (owned m)) c.args.row.now None m.registers c.in-None.ensures m.wide (omega (arith, c.if-row-eq0.false)) (omega (arith, c.if-row-gt-REGISTERS.false)))

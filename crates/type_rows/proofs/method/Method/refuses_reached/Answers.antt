@@ -20,11 +20,11 @@ returns-then-not-stays_inside c =
     let out = c.apply.new.out in
     let st = row_types out in
     let lt = row_cells m.registers out in
-    let es = leads c.in-Some.to c.args.pc st lt in
+    let es = leads c.in-Some.to c.args.site.pc st lt in
     let n = length M.method.code in
-    let rest = handlers_pass P c.args.i c.args.pc (length (row_types row)) M.method.height n M.method.handlers in
+    let rest = handlers_pass P c.args.site.instr c.args.site.pc (length (row_types row)) M.method.height n M.method.handlers in
     let inside = sym (ap (λ (k : ℕ). all_inside k es) c.count.ensures) ∙ sym (c.stays_inside.ensures st lt) ∙ c.if-not-stays_inside.true in
-    let told = refused_told P M c.args.i c.args.pc (row_types row) (row_cells m.registers row) es c.in-Some.ensures.sends in
+    let told = refused_told P M c.args.site.instr c.args.site.pc (row_types row) (row_cells m.registers row) es c.in-Some.ensures.sends in
     ap not c.if-not-stays_inside.true ∙ sym (told ∙ ap (λ (b : Bool). not (b && rest)) inside)
 
 pub returns-else-not-stays_inside : goal.returns-else-not-stays_inside
@@ -36,15 +36,15 @@ returns-else-not-stays_inside c =
     let out = c.apply.new.out in
     let st = row_types out in
     let lt = row_cells m.registers out in
-    let es = leads c.in-Some.to c.args.pc st lt in
+    let es = leads c.in-Some.to c.args.site.pc st lt in
     let n = length M.method.code in
-    let rest = handlers_pass P c.args.i c.args.pc (length (row_types row)) M.method.height n M.method.handlers in
+    let rest = handlers_pass P c.args.site.instr c.args.site.pc (length (row_types row)) M.method.height n M.method.handlers in
     let inside = sym (ap (λ (k : ℕ). all_inside k es) c.count.ensures) ∙ sym (c.stays_inside.ensures st lt) ∙ c.if-not-stays_inside.false in
-    let told = refused_told P M c.args.i c.args.pc (row_types row) (row_cells m.registers row) es c.in-Some.ensures.sends in
+    let told = refused_told P M c.args.site.instr c.args.site.pc (row_types row) (row_cells m.registers row) es c.in-Some.ensures.sends in
     let r = c.requires.reached in
     let behind = length-drop 1 row in
     let long = length-take-le 16 (drop 1 row) (omega (arith, r.whole)) in
     let low : get_or row 0 0 - 1 ≤ length (stack_part row) = omega (arith, r.low) in
     let high = types_height (stack_part row) (get_or row 0 0 - 1) low in
-    let all = ap (λ (h : ℕ). handlers_pass P c.args.i c.args.pc h M.method.height n M.method.handlers) (sym high) in
+    let all = ap (λ (h : ℕ). handlers_pass P c.args.site.instr c.args.site.pc h M.method.height n M.method.handlers) (sym high) in
     ap not (c.all_pass.ensures ∙ all) ∙ sym (told ∙ ap (λ (b : Bool). not (b && rest)) inside)

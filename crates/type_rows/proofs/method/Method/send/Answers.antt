@@ -1,5 +1,5 @@
 -- By the first number: nothing has reached the instruction, paths clash, or an edge sends a row.
-use Rattle.std.proofs.Common.{◌≡◌, ◌<◌, ◌≤◌, length, get_or, Some, sym, ap, ◌∙◌, subst, arith}
+use Rattle.std.proofs.Common.{ℕ, ◌<◌, ◌≤◌, length, get_or, sym, ap, ◌∙◌, subst, arith}
 use Rattle.std.specs.List.{slice_get}
 use Rattle.format.proofs.WellFormed.{kept_is_well_formed}
 use Rattle.jinja.specs.Classes.{table}
@@ -8,7 +8,8 @@ use Rattle.jinja.specs.Rows as rows
 use Rattle.tables.proofs.Programs.{length_program}
 use Rattle.type_rows.specs.FlowLaws.{taken_at}
 use Rattle.type_rows.specs.Merging.{InUse}
-use Rattle.type_rows.specs.MethodFlow.{refuses, carries}
+use Rattle.type_rows.specs.MethodFlow.{refuses, edge_of, carries}
+use Rattle.type_rows.specs.Numbers.{read_row}
 use Rattle.type_rows.specs.RowSteps.{row_types, row_cells}
 use Rattle.type_rows.specs.Stepping.{program, owned}
 use Rattle.type_rows.proofs.EdgesSent.{method_found, edge_shown}
@@ -32,17 +33,17 @@ send_reached-requires c =
     let P = program m in
     let M = owned m in
     let row = c.args.row.now in
-    let pc = c.args.pc in
+    let site = c.in_ok-site.site in
     let n = rows.registers M in
     let t = m.tables.now in
     let above : 0 < get_or row 0 0 = omega (arith, c.if-row-eq0.false) in
     let low : get_or row 0 0 ≤ 17 = omega (arith, c.if-row-gt-REGISTERS.false) in
     let few : length (table P) ≤ 32 = omega (arith, length_program t, t.few_classes) in
-    let at : slice_get M.method.code pc ≡ Some c.in_ok-i.i = sym c.instr.ensures ∙ c.in_ok-i.was in
+    let here = c.in_ok-site.ensures.1 in
+    let at = ap (slice_get M.method.code) here ∙ c.in_ok-site.ensures.0 in
     let read = read_reached n row above low in
-    let takes = taken_at (kept_is_well_formed P m.kept) M pc at (row_types row) (row_cells n row) (ap (refuses P M pc) (sym read) ∙ c.requires.taken) in
+    let takes = taken_at (kept_is_well_formed P m.kept) M site.pc at (row_types row) (row_cells n row) (ap (refuses P M site.pc) (sym read) ∙ ap (λ (k : ℕ). refuses P M k (read_row n row)) here ∙ c.requires.taken) in
     record {
-      place = omega (arith, c.requires.node, m.short);
       reached = record { whole = c.requires.row.whole; small = c.requires.row.small; above = above; low = low };
       told = row_in_use_told P M (row_types row) (row_cells n row) few (subst (InUse P M) read c.requires.row.in_use);
       suits = λ j x f r. (takes.caught j x f r).0;
@@ -56,7 +57,8 @@ returns c =
     let M = owned m in
     let row = c.args.row.now in
     let pc = c.args.pc in
-    let at : slice_get M.method.code pc ≡ Some c.in_ok-i.i = sym c.instr.ensures ∙ c.in_ok-i.was in
+    let site = c.in_ok-site.site in
     let found = method_found (method_at P m.number) pc c.requires.node in
-    let x = edge_shown (kept_is_well_formed P m.kept) m.number found m.short pc c.args.e m.registers row c.send_reached.new.out c.send_reached.result at c.requires.node c.requires.edge m.wide (omega (arith, c.if-row-eq0.false)) (omega (arith, c.if-row-gt-REGISTERS.false)) c.requires.row.in_use c.requires.taken c.send_reached.ensures.sends c.send_reached.ensures.reached in
+    let sends = ap (λ (k : ℕ). edge_of P M site.instr k c.args.e (row_types row) (row_cells m.registers row)) (sym c.in_ok-site.ensures.1) ∙ c.send_reached.ensures.sends in
+    let x = edge_shown (kept_is_well_formed P m.kept) m.number found m.short pc c.args.e m.registers row c.send_reached.new.out c.send_reached.result c.in_ok-site.ensures.0 c.requires.node c.requires.edge m.wide (omega (arith, c.if-row-eq0.false)) (omega (arith, c.if-row-gt-REGISTERS.false)) c.requires.row.in_use c.requires.taken sends c.send_reached.ensures.reached in
     record { shows = x.0; sends = x.1 }

@@ -16,14 +16,14 @@ pub returns-then-not-branches : goal.returns-then-not-branches
 returns-then-not-branches c =
     let m = c.args.self.now in
     let row = c.args.row.now in
-    record { sends = no_branch (kept_is_well_formed (program m) m.kept) (owned m) c.args.i c.args.pc (row_types row) (row_cells m.registers row) c.args.e c.if-e-eq1.true c.if-not-branches.ensures; reached = tt }
+    record { sends = no_branch (kept_is_well_formed (program m) m.kept) (owned m) c.args.site.instr c.args.site.pc (row_types row) (row_cells m.registers row) c.args.e c.if-e-eq1.true c.if-not-branches.ensures; reached = tt }
 
 pub returns-then-e-lt2 : goal.returns-then-e-lt2
 returns-then-e-lt2 c =
     let m = c.args.self.now in
     let row = c.args.row.now in
     record {
-      sends = next_edge (program m) (owned m) c.args.i c.args.pc (row_types row) (row_cells m.registers row) c.args.e (omega (arith, c.if-e-lt2.true)) ∙ c.send_next.ensures.sends;
+      sends = next_edge (program m) (owned m) c.args.site.instr c.args.site.pc (row_types row) (row_cells m.registers row) c.args.e (omega (arith, c.if-e-lt2.true)) ∙ c.send_next.ensures.sends;
       reached = c.send_next.ensures.reached;
     }
 
@@ -37,4 +37,4 @@ returns-clause-sends c =
     let hs = c.handlers.result.now in
     let found = c.in_ok-handler.ensures.lookup in
     let at = ap (λ (l : List Handler). slice_get l (c.args.e - 2)) (sym c.handlers.ensures) ∙ slice_get_read hs (length hs) (c.args.e - 2) c.in_ok-handler.field-0.now refl found.3.0 found.1 in
-    later_edge P (owned m) c.args.i c.args.pc st lt c.args.e (omega (arith, c.if-e-lt2.false)) ∙ ap (λ (o : Option Handler). maybe o nothing (λ x. to_handler P x c.args.i c.args.pc st lt)) at ∙ c.send_to_handler.ensures.sends
+    later_edge P (owned m) c.args.site.instr c.args.site.pc st lt c.args.e (omega (arith, c.if-e-lt2.false)) ∙ ap (λ (o : Option Handler). maybe o nothing (λ x. to_handler P x c.args.site.instr c.args.site.pc st lt)) at ∙ c.send_to_handler.ensures.sends
