@@ -6,7 +6,7 @@ ghost use Rattle.jinja.specs.Rows as rows;
 ghost use Rattle.jinja.specs.Transfer.{is_relevant};
 ghost use Rattle.walk.specs.Flow.{nothing, sent};
 ghost use Rattle.type_rows.specs.MethodFlow as flow;
-ghost use Rattle.type_rows.specs.Numbers.{width, Shows, read_row};
+ghost use Rattle.type_rows.specs.Numbers.{Shows, read_row};
 ghost use Rattle.type_rows.specs.Registers.{Told};
 ghost use Rattle.type_rows.specs.RowSteps.{row_types, row_cells, Reached};
 ghost use Rattle.type_rows.specs.Sending.{sent_to};
@@ -17,6 +17,7 @@ use crate::method::Method;
 use crate::row::REGISTERS;
 use crate::site::Site;
 use jinja::instr::Instr;
+use walk::WIDTH;
 
 impl<'a> Method<'a> {
     // Two for the successors of an instruction, and one for each handler.
@@ -27,11 +28,16 @@ impl<'a> Method<'a> {
     }
 
     // Writes what an edge of the instruction sends from a row that is reached.
-    fn send_reached(&self, site: Site, e: usize, row: &[u16], out: &mut [u16]) -> Option<usize>
+    fn send_reached(
+        &self,
+        site: Site,
+        e: usize,
+        row: &[u16],
+        out: &mut [u16; WIDTH],
+    ) -> Option<usize>
         requires reached { Reached row.now }
         requires told { Told (row_types row.now) }
         requires suits { (j : ℕ) (x : handler.Handler) → slice_get (owned self.now).method.handlers j ≡ Some x → is_relevant (program self.now) site.instr site.pc x ≡ true → Suits (program self.now) (owned self.now) (row_types row.now) x }
-        requires whole { length out.old ≡ width }
         ensures sends { flow.edge_of (program self.now) (owned self.now) site.instr site.pc e (row_types row.now) (row_cells self.now.registers row.now) ≡ sent_to result (row_types out.new) (row_cells self.now.registers out.new) }
         ensures reached { OnSome result (Reached out.new) }
     {
@@ -47,12 +53,17 @@ impl<'a> Method<'a> {
 
     // Writes what edge `e` of the instruction at `pc` sends from the row, and answers where to; `None` where it sends
     // nothing.
-    pub(crate) fn send(&self, pc: usize, e: usize, row: &[u16], out: &mut [u16]) -> Option<usize>
+    pub(crate) fn send(
+        &self,
+        pc: usize,
+        e: usize,
+        row: &[u16],
+        out: &mut [u16; WIDTH],
+    ) -> Option<usize>
         requires node { pc < length (owned self.now).method.code }
         requires edge { e < 2 + length (owned self.now).method.handlers }
         requires row { Shows (program self.now) (owned self.now) row.now }
         requires taken { flow.refuses (program self.now) (owned self.now) pc (read_row (rows.registers (owned self.now)) row.now) ≡ false }
-        requires whole { length out.old ≡ width }
         ensures shows { OnSome result (Shows (program self.now) (owned self.now) out.new) }
         ensures sends { MatchOption result (flow.carries (program self.now) (owned self.now) pc e (read_row (rows.registers (owned self.now)) row.now) ≡ nothing) (λ k. flow.carries (program self.now) (owned self.now) pc e (read_row (rows.registers (owned self.now)) row.now) ≡ sent k (read_row (rows.registers (owned self.now)) out.new)) }
     {

@@ -7,7 +7,7 @@ ghost use Rattle.jinja.specs.Options.{top, top_of};
 ghost use Rattle.jinja.specs.Rows.{usable};
 ghost use Rattle.jinja.specs.Types.{type_number};
 ghost use Rattle.type_rows.specs.Calling.{SeenType};
-ghost use Rattle.type_rows.specs.Numbers.{width, absent, Small};
+ghost use Rattle.type_rows.specs.Numbers.{absent, Small};
 ghost use Rattle.type_rows.specs.Registers.{loaded};
 
 use crate::row::{CELLS, REGISTERS, write_row};
@@ -50,8 +50,7 @@ impl TypeFrame {
     }
 
     /// Writes the row of the frame.
-    pub(crate) fn write(&self, out: &mut [u16])
-        requires { length out.old ≡ width }
+    pub(crate) fn write(&self, out: &mut [u16; WIDTH])
         ensures types { row_types out.new ≡ frame_types self.now }
         ensures registers { (n : ℕ) → row_cells n out.new ≡ frame_cells n self.now }
         ensures reached { Reached out.new }

@@ -3,13 +3,14 @@ ghost use Rattle.std.specs.Prelude.{◌≡◌, ◌<◌, length, Some, None, Matc
 ghost use Rattle.std.specs.List.{slice_get};
 ghost use Rattle.jinja.specs.Rows as rows;
 ghost use Rattle.type_rows.specs.Merging.{merged};
-ghost use Rattle.type_rows.specs.Numbers.{width, Shows, read_row};
+ghost use Rattle.type_rows.specs.Numbers.{Shows, read_row};
 ghost use Rattle.type_rows.specs.Stepping.{program, owned};
 
 use crate::method::Method;
 use crate::row::write_unreached;
 use crate::site::Site;
 use jinja::program::Handler;
+use walk::WIDTH;
 
 impl<'a> Method<'a> {
     // How many instructions it has.
@@ -37,8 +38,7 @@ impl<'a> Method<'a> {
     }
 
     // Writes the row of an instruction that nothing has reached.
-    pub(crate) fn bottom(&self, out: &mut [u16])
-        requires { length out.old ≡ width }
+    pub(crate) fn bottom(&self, out: &mut [u16; WIDTH])
         ensures shows { Shows (program self.now) (owned self.now) out.new }
         ensures means { read_row (rows.registers (owned self.now)) out.new ≡ merged rows.unreached }
     {

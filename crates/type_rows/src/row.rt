@@ -1,10 +1,10 @@
 // A row of numbers in a workspace: its height, its stack cells and its registers.
 ghost use Rattle.std.specs.Prelude.{◌≡◌, ◌+◌, ◌-◌, ◌≤◌, ◌∷◌, ◌++◌, length, take, replicate};
-ghost use Rattle.format.specs.Limits.{max_height, max_registers};
+ghost use Rattle.format.specs.Limits.{max_height};
 ghost use Rattle.type_rows.specs.Numbers.{width, absent, row_numbers};
 ghost use Rattle.jinja.specs.Rows.{unreached};
 
-use format::limits::MAX_HEIGHT;
+use format::limits::{MAX_HEIGHT, MAX_REGISTERS};
 use walk::WIDTH;
 
 /// The number of what is absent or unusable.
@@ -42,11 +42,13 @@ pub fn write_unreached(row: &mut [u16])
 }
 
 /// Writes a row of this height from its stack cells and registers.
-pub(crate) fn write_row(out: &mut [u16], height: u16, cells: &[u16], registers: &[u16])
-    requires whole { length out.old ≡ width }
-    requires low { height ≤ max_height }
-    requires cells { length cells.now ≡ max_height }
-    requires registers { length registers.now ≡ max_registers }
+pub(crate) fn write_row(
+    out: &mut [u16; WIDTH],
+    height: u16,
+    cells: &[u16; CELLS],
+    registers: &[u16; MAX_REGISTERS],
+)
+    requires { height ≤ max_height }
     ensures { out.new ≡ (height + 1) ∷ (cells.now ++ registers.now) }
 {
     out[0] = height + 1;

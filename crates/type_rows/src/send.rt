@@ -8,7 +8,6 @@ ghost use Rattle.walk.specs.Flow.{nothing};
 ghost use Rattle.type_rows.specs.FlowLaws.{sent_at};
 ghost use Rattle.type_rows.specs.Leading.{leads};
 ghost use Rattle.type_rows.specs.MethodFlow.{to_handler};
-ghost use Rattle.type_rows.specs.Numbers.{width};
 ghost use Rattle.type_rows.specs.Registers.{Told};
 ghost use Rattle.type_rows.specs.RowSteps.{row_types, row_cells, Reached};
 ghost use Rattle.type_rows.specs.Sending.{sent_to};
@@ -20,6 +19,7 @@ use crate::leads::Leads;
 use crate::method::Method;
 use crate::site::Site;
 use jinja::program::Handler;
+use walk::WIDTH;
 
 impl<'a> Method<'a> {
     // Writes what the first or the second successor gets, and answers where it stands.
@@ -28,11 +28,10 @@ impl<'a> Method<'a> {
         site: Site,
         e: usize,
         row: &[u16],
-        out: &mut [u16],
+        out: &mut [u16; WIDTH],
     ) -> Option<usize>
         requires reached { Reached row.now }
         requires told { Told (row_types row.now) }
-        requires whole { length out.old ≡ width }
         ensures sends { maybe (transfer (program self.now) (owned self.now) site.instr site.pc (row_types row.now) (row_cells self.now.registers row.now)) nothing (λ es. sent_at es e) ≡ sent_to result (row_types out.new) (row_cells self.now.registers out.new) }
         ensures reached { OnSome result (Reached out.new) }
     {
@@ -46,11 +45,10 @@ impl<'a> Method<'a> {
         site: Site,
         handler: Handler,
         row: &[u16],
-        out: &mut [u16],
+        out: &mut [u16; WIDTH],
     ) -> Option<usize>
         requires reached { Reached row.now }
         requires suits { is_relevant (program self.now) site.instr site.pc handler ≡ true → Suits (program self.now) (owned self.now) (row_types row.now) handler }
-        requires whole { length out.old ≡ width }
         ensures sends { to_handler (program self.now) handler site.instr site.pc (row_types row.now) (row_cells self.now.registers row.now) ≡ sent_to result (row_types out.new) (row_cells self.now.registers out.new) }
         ensures reached { OnSome result (Reached out.new) }
     {

@@ -3,7 +3,7 @@ ghost use Rattle.std.specs.Prelude.{◌≡◌, ◌≤◌, ◌++◌, map, length,
 ghost use Rattle.jinja.specs.Rows as rows;
 ghost use Rattle.jinja.specs.Types.{type_number};
 ghost use Rattle.type_rows.specs.Merging.{merged};
-ghost use Rattle.type_rows.specs.Numbers.{width, Shows, read_row, row_numbers};
+ghost use Rattle.type_rows.specs.Numbers.{Shows, read_row, row_numbers};
 ghost use Rattle.type_rows.specs.Stepping.{program, owned};
 
 use crate::method::Method;
@@ -11,12 +11,12 @@ use crate::row::{ABSENT, CELLS, write_row};
 use format::limits::MAX_REGISTERS;
 use jinja::program::{ClassNumber, OBJECT};
 use jinja::ty::Ty;
+use walk::WIDTH;
 
 impl<'a> Method<'a> {
     // Writes the row of the first instruction as the method begins: no operands, this object, the parameters, and
     // unusable extras.
-    pub(crate) fn start(&self, out: &mut [u16])
-        requires { length out.old ≡ width }
+    pub(crate) fn start(&self, out: &mut [u16; WIDTH])
         ensures shows { Shows (program self.now) (owned self.now) out.new }
         ensures means { read_row (rows.registers (owned self.now)) out.new ≡ merged (rows.first_row (owned self.now)) }
     {
@@ -24,8 +24,7 @@ impl<'a> Method<'a> {
     }
 
     // Writes the numbers of that row.
-    fn write_first(&self, out: &mut [u16])
-        requires { length out.old ≡ width }
+    fn write_first(&self, out: &mut [u16; WIDTH])
         ensures { out.new ≡ row_numbers (rows.first_row (owned self.now)) }
     {
         let cells = [ABSENT; CELLS];

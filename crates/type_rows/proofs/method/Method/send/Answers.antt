@@ -47,7 +47,6 @@ send_reached-requires c =
       reached = record { whole = c.requires.row.whole; small = c.requires.row.small; above = above; low = low };
       told = row_in_use_told P M (row_types row) (row_cells n row) few (subst (InUse P M) read c.requires.row.in_use);
       suits = λ j x f r. (takes.caught j x f r).0;
-      whole = c.requires.whole;
     }
 
 pub returns : goal.returns
