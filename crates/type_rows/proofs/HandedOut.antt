@@ -25,9 +25,9 @@ parts_put [] ys zs n p q = absurd (omega arith)
 parts_put (x ∷ xs) ys zs n p q = row_of_parts (x ∷ xs) x ys zs n p q
 
 module _ (n : ℕ) (xs : List ℕ) (whole : length xs ≡ 33) where
-  pub none_handed : (get_or xs 0 0 ≡ 0) ⊎ ((get_or xs 0 0 ≡ 0 → ⊥) × (17 < get_or xs 0 0)) → row_numbers unreached ≡ row_numbers (row_of (read_row n xs))
+  pub none_handed : (get_or xs 0 0 ≡ 0) ⊎ (17 < get_or xs 0 0) → row_numbers unreached ≡ row_numbers (row_of (read_row n xs))
   none_handed (inl e) = ap (λ (m : Merge). row_numbers (row_of m)) (sym (read_unreached n xs e))
-  none_handed (inr e) = ap (λ (m : Merge). row_numbers (row_of m)) (sym (read_clash n xs e.1))
+  none_handed (inr e) = ap (λ (m : Merge). row_numbers (row_of m)) (sym (read_clash n xs e))
 
   module _ (few : n ≤ 16) (above : 0 < get_or xs 0 0) (low : get_or xs 0 0 ≤ 17) where
     shown_numbers : row_numbers (row_of (read_row n xs)) ≡ get_or xs 0 0 ∷ (padded 16 (take (get_or xs 0 0 - 1) (stack_part xs)) ++ padded 16 (take n (register_part xs)))

@@ -13,6 +13,7 @@ pub mod Calling
 pub mod Leading
 pub mod TypeFrames
 pub mod Stepping
+pub mod ShownRows
 pub mod RowSteps
 pub mod Refusing
 pub mod Joining

@@ -14,7 +14,7 @@ ghost use Rattle.type_rows.specs.Stepping.{program, owned};
 ghost use Rattle.type_rows.specs.Taking.{Suits};
 
 use crate::method::Method;
-use crate::row::REGISTERS;
+use crate::row::Shown;
 use crate::site::Site;
 use jinja::instr::Instr;
 use walk::WIDTH;
@@ -67,11 +67,14 @@ impl<'a> Method<'a> {
         ensures shows { OnSome result (Shows (program self.now) (owned self.now) out.new) }
         ensures sends { MatchOption result (flow.carries (program self.now) (owned self.now) pc e (read_row (rows.registers (owned self.now)) row.now) ≡ nothing) (λ k. flow.carries (program self.now) (owned self.now) pc e (read_row (rows.registers (owned self.now)) row.now) ≡ sent k (read_row (rows.registers (owned self.now)) out.new)) }
     {
-        if row[0] == 0 || row[0] as usize > REGISTERS {
-            return None;
+        match Shown::of(row) {
+            Shown::Unreached => None,
+            Shown::Clash => None,
+            Shown::Reached(_) => {
+                let site = self.site(pc)?;
+                self.send_reached(site, e, row, out)
+            }
         }
-        let site = self.site(pc)?;
-        self.send_reached(site, e, row, out)
     }
 }
 

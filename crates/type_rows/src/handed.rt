@@ -6,7 +6,7 @@ ghost use Rattle.type_rows.specs.Stepping.{owned};
 ghost use Rattle.type_rows.specs.Typings.{row_of};
 
 use crate::method::Method;
-use crate::row::{REGISTERS, clear_from, write_unreached};
+use crate::row::{REGISTERS, Shown, clear_from, write_unreached};
 use walk::WIDTH;
 
 impl<'a> Method<'a> {
@@ -15,12 +15,13 @@ impl<'a> Method<'a> {
         requires { length row.old ≡ width }
         ensures { row.new ≡ row_numbers (row_of (read_row (rows.registers (owned self.now)) row.old)) }
     {
-        let first = row[0] as usize;
-        if first == 0 || first > REGISTERS {
-            write_unreached(row);
-            return;
+        match Shown::of(row) {
+            Shown::Unreached => write_unreached(row),
+            Shown::Clash => write_unreached(row),
+            Shown::Reached(height) => {
+                clear_from(&mut row[1..REGISTERS], height);
+                clear_from(&mut row[REGISTERS..WIDTH], self.registers);
+            }
         }
-        clear_from(&mut row[1..REGISTERS], first - 1);
-        clear_from(&mut row[REGISTERS..WIDTH], self.registers);
     }
 }

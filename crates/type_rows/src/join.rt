@@ -29,6 +29,7 @@ impl<'a> Method<'a> {
         ensures means { read_row (rows.registers (owned self.now)) row.new ≡ merge (program self.now) (read_row (rows.registers (owned self.now)) row.old) (read_row (rows.registers (owned self.now)) other.now) }
         ensures changed { MatchBool result (read_row (rows.registers (owned self.now)) row.new ≢ read_row (rows.registers (owned self.now)) row.old) (read_row (rows.registers (owned self.now)) row.new ≡ read_row (rows.registers (owned self.now)) row.old) }
     {
+        // Kept, no plainer by `Shown`: the first numbers are also compared with one another.
         if other[0] == 0 {
             return false;
         }
@@ -105,6 +106,7 @@ pub(crate) fn join_numbers(tables: &Tables, cells: &mut [u16], others: &[u16]) -
     ensures changed { MatchBool result (cells.new ≢ cells.old) (cells.new ≡ cells.old) }
 {
     let mut changed = false;
+    // Kept, tried by `zip`: no invariant can name the cells that a zipped `iter_mut` has written.
     for (k, cell) in cells.iter_mut().enumerate() {
         let joined = join_number(tables, *cell, others[k]);
         if joined != *cell {

@@ -6,7 +6,7 @@ ghost use Rattle.type_rows.specs.Numbers.{Shows, read_row};
 ghost use Rattle.type_rows.specs.Stepping.{program, owned};
 
 use crate::method::Method;
-use crate::row::REGISTERS;
+use crate::row::Shown;
 
 impl<'a> Method<'a> {
     // Whether the instruction at `pc` refuses the row: paths clash there, a need fails, or an edge leaves the code.
@@ -15,15 +15,13 @@ impl<'a> Method<'a> {
         requires row { Shows (program self.now) (owned self.now) row.now }
         ensures { result ≡ flow.refuses (program self.now) (owned self.now) pc (read_row (rows.registers (owned self.now)) row.now) }
     {
-        if row[0] == 0 {
-            return false;
-        }
-        if row[0] as usize > REGISTERS {
-            return true;
-        }
-        match self.site(pc) {
-            Some(site) => self.refuses_reached(site, row),
-            None => true,
+        match Shown::of(row) {
+            Shown::Unreached => false,
+            Shown::Clash => true,
+            Shown::Reached(_) => match self.site(pc) {
+                Some(site) => self.refuses_reached(site, row),
+                None => true,
+            },
         }
     }
 }

@@ -1,8 +1,9 @@
 // A row of numbers in a workspace: its height, its stack cells and its registers.
-ghost use Rattle.std.specs.Prelude.{◌≡◌, ◌+◌, ◌-◌, ◌≤◌, ◌∷◌, ◌++◌, length, take, replicate};
+ghost use Rattle.std.specs.Prelude.{◌≡◌, ◌+◌, ◌-◌, ◌≤◌, ◌∷◌, ◌++◌, length, take, replicate, slice_index};
 ghost use Rattle.format.specs.Limits.{max_height};
 ghost use Rattle.type_rows.specs.Numbers.{width, absent, row_numbers};
 ghost use Rattle.jinja.specs.Rows.{unreached};
+ghost use Rattle.type_rows.specs.ShownRows.{ShownBy};
 
 use format::limits::{MAX_HEIGHT, MAX_REGISTERS};
 use walk::WIDTH;
@@ -15,6 +16,32 @@ pub const CELLS: usize = MAX_HEIGHT as usize;
 
 /// Where the registers of a row begin.
 pub const REGISTERS: usize = 1 + CELLS;
+
+/// What a row shows.
+#[derive(Clone, Copy, PartialEq, Eq, Debug)]
+pub enum Shown {
+    /// Nothing has reached the instruction.
+    Unreached,
+    /// A stack of this height, and registers.
+    Reached(usize),
+    /// Paths clash.
+    Clash,
+}
+
+impl Shown {
+    /// By the first number: 0 is unreached, 1 + h a stack of height h, and all else a clash.
+    pub(crate) fn of(row: &[u16]) -> Shown
+        requires { length row.now ≡ width }
+        ensures { ShownBy (slice_index row.now 0) result }
+    {
+        let first = row[0] as usize;
+        match first {
+            0 => Shown::Unreached,
+            1..=REGISTERS => Shown::Reached(first - 1),
+            _ => Shown::Clash,
+        }
+    }
+}
 
 /// Makes every number absent.
 pub fn clear(row: &mut [u16])

@@ -54,6 +54,7 @@ fn write_types(cells: &mut [u16], types: &[Ty])
     requires { length types.now ≤ length cells.old }
     ensures { cells.new ≡ map type_number types.now ++ drop (length types.now) cells.old }
 {
+    // Kept, tried by `zip`: no invariant can name the cells that a zipped `iter_mut` has written.
     for (k, t) in types.iter().enumerate() {
         cells[k] = u16::from(*t);
     }

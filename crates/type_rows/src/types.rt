@@ -75,6 +75,7 @@ fn nearest_common(tables: &Tables, c: ClassNumber, d: ClassNumber) -> ClassNumbe
     let mut low = c;
     let mut other = d;
     let mut left = c as u16 + d as u16;
+    // Kept, no plainer by `for`: the loop ends where both are equal, and the count is only its measure.
     while left > 0 && low != other {
         if low < other {
             other = tables.superclass(other);

@@ -11,11 +11,11 @@ use Rattle.type_rows.specs.Stepping.{program, owned}
 use Rattle.type_rows.proofs.Reading.{read_reached, row_in_use_told, refuses_unreached, refuses_clash, refuses_reached}
 use Rattle.type_rows.proofs.method.Method.refuses.Goals as goal
 
-pub returns-then-row-eq0 : goal.returns-then-row-eq0
-returns-then-row-eq0 c = let m = c.args.self.now in sym (refuses_unreached (program m) (owned m) c.args.pc (rows.registers (owned m)) c.args.row.now c.requires.node c.if-row-eq0.true)
+pub returns-in-Unreached : goal.returns-in-Unreached
+returns-in-Unreached c = let m = c.args.self.now in sym (refuses_unreached (program m) (owned m) c.args.pc (rows.registers (owned m)) c.args.row.now c.requires.node c.in-Unreached.ensures)
 
-pub returns-then-row-gt-REGISTERS : goal.returns-then-row-gt-REGISTERS
-returns-then-row-gt-REGISTERS c = let m = c.args.self.now in sym (refuses_clash (program m) (owned m) c.args.pc (rows.registers (owned m)) c.args.row.now (omega (arith, c.if-row-gt-REGISTERS.true)))
+pub returns-in-Clash : goal.returns-in-Clash
+returns-in-Clash c = let m = c.args.self.now in sym (refuses_clash (program m) (owned m) c.args.pc (rows.registers (owned m)) c.args.row.now c.in-Clash.ensures)
 
 pub refuses_reached-requires : goal.refuses_reached-requires
 refuses_reached-requires c =
@@ -25,8 +25,8 @@ refuses_reached-requires c =
     let row = c.args.row.now in
     let n = rows.registers M in
     let t = m.tables.now in
-    let above : 0 < get_or row 0 0 = omega (arith, c.if-row-eq0.false) in
-    let low : get_or row 0 0 ≤ 17 = omega (arith, c.if-row-gt-REGISTERS.false) in
+    let above : 0 < get_or row 0 0 = c.in-Reached.ensures.0 in
+    let low : get_or row 0 0 ≤ 17 = c.in-Reached.ensures.1 in
     let few : length (table P) ≤ 32 = omega (arith, length_program t, t.few_classes) in
     record {
       reached = record { whole = c.requires.row.whole; small = c.requires.row.small; above = above; low = low };
@@ -41,9 +41,9 @@ returns-in-Some c =
     let n = m.registers in
     c.refuses_reached.ensures
     ∙ ap (λ (k : ℕ). refuses_row (program m) (owned m) site.instr k (reached (row_types row) (row_cells n row))) c.in-Some.ensures.1
-    ∙ sym (refuses_reached (program m) (owned m) c.args.pc (rows.registers (owned m)) row (Some site.instr) n c.in-Some.ensures.0 m.wide (omega (arith, c.if-row-eq0.false)) (omega (arith, c.if-row-gt-REGISTERS.false)))
+    ∙ sym (refuses_reached (program m) (owned m) c.args.pc (rows.registers (owned m)) row (Some site.instr) n c.in-Some.ensures.0 m.wide c.in-Reached.ensures.0 c.in-Reached.ensures.1)
 
 pub returns-in-None : goal.returns-in-None
 returns-in-None c =
     let m = c.args.self.now in
-    sym (refuses_reached (program m) (owned m) c.args.pc (rows.registers (owned m)) c.args.row.now None m.registers c.in-None.ensures m.wide (omega (arith, c.if-row-eq0.false)) (omega (arith, c.if-row-gt-REGISTERS.false)))
+    sym (refuses_reached (program m) (owned m) c.args.pc (rows.registers (owned m)) c.args.row.now None m.registers c.in-None.ensures m.wide c.in-Reached.ensures.0 c.in-Reached.ensures.1)

@@ -15,17 +15,12 @@ use Rattle.type_rows.specs.Stepping.{program, owned}
 use Rattle.type_rows.proofs.EdgesSent.{method_found, edge_shown}
 use Rattle.type_rows.proofs.Reading.{read_unreached, read_reached, read_clash, row_in_use_told}
 use Rattle.type_rows.proofs.method.Method.send.Goals as goal
-use Rattle.type_rows.proofs.method.Method.send.Goals.{then-row-eq0-via-then-row-eq0, then-row-eq0-via-else-row-eq0+then-row-gt-REGISTERS}
 
-pub returns-then-row-eq0 : goal.returns-then-row-eq0
-returns-then-row-eq0 c =
-    let m = c.args.self.now in
-    let n = rows.registers (owned m) in
-    let row = c.args.row.now in
-    elim c.then-row-eq0.branch [
-      | then-row-eq0-via-then-row-eq0 w ↦ record { shows = tt; sends = ap (carries (program m) (owned m) c.args.pc c.args.e) (read_unreached n row w.if-row-eq0.true) }
-      | then-row-eq0-via-else-row-eq0+then-row-gt-REGISTERS w ↦ record { shows = tt; sends = ap (carries (program m) (owned m) c.args.pc c.args.e) (read_clash n row w.if-row-gt-REGISTERS.true) }
-    ]
+pub returns-in-Unreached : goal.returns-in-Unreached
+returns-in-Unreached c = let m = c.args.self.now in record { shows = tt; sends = ap (carries (program m) (owned m) c.args.pc c.args.e) (read_unreached (rows.registers (owned m)) c.args.row.now c.in-Unreached.ensures) }
+
+pub returns-in-Clash : goal.returns-in-Clash
+returns-in-Clash c = let m = c.args.self.now in record { shows = tt; sends = ap (carries (program m) (owned m) c.args.pc c.args.e) (read_clash (rows.registers (owned m)) c.args.row.now c.in-Clash.ensures) }
 
 pub send_reached-requires : goal.send_reached-requires
 send_reached-requires c =
@@ -33,14 +28,14 @@ send_reached-requires c =
     let P = program m in
     let M = owned m in
     let row = c.args.row.now in
-    let site = c.in_ok-site.site in
+    let site = c.in_ok-site-in-Reached.site in
     let n = rows.registers M in
     let t = m.tables.now in
-    let above : 0 < get_or row 0 0 = omega (arith, c.if-row-eq0.false) in
-    let low : get_or row 0 0 ≤ 17 = omega (arith, c.if-row-gt-REGISTERS.false) in
+    let above : 0 < get_or row 0 0 = c.in-Reached.ensures.0 in
+    let low : get_or row 0 0 ≤ 17 = c.in-Reached.ensures.1 in
     let few : length (table P) ≤ 32 = omega (arith, length_program t, t.few_classes) in
-    let here = c.in_ok-site.ensures.1 in
-    let at = ap (slice_get M.method.code) here ∙ c.in_ok-site.ensures.0 in
+    let here = c.in_ok-site-in-Reached.ensures.1 in
+    let at = ap (slice_get M.method.code) here ∙ c.in_ok-site-in-Reached.ensures.0 in
     let read = read_reached n row above low in
     let takes = taken_at (kept_is_well_formed P m.kept) M site.pc at (row_types row) (row_cells n row) (ap (refuses P M site.pc) (sym read) ∙ ap (λ (k : ℕ). refuses P M k (read_row n row)) here ∙ c.requires.taken) in
     record {
@@ -49,15 +44,15 @@ send_reached-requires c =
       suits = λ j x f r. (takes.caught j x f r).0;
     }
 
-pub returns : goal.returns
-returns c =
+pub returns-in_ok-site-in-Reached : goal.returns-in_ok-site-in-Reached
+returns-in_ok-site-in-Reached c =
     let m = c.args.self.now in
     let P = program m in
     let M = owned m in
     let row = c.args.row.now in
     let pc = c.args.pc in
-    let site = c.in_ok-site.site in
+    let site = c.in_ok-site-in-Reached.site in
     let found = method_found (method_at P m.number) pc c.requires.node in
-    let sends = ap (λ (k : ℕ). edge_of P M site.instr k c.args.e (row_types row) (row_cells m.registers row)) (sym c.in_ok-site.ensures.1) ∙ c.send_reached.ensures.sends in
-    let x = edge_shown (kept_is_well_formed P m.kept) m.number found m.short pc c.args.e m.registers row c.send_reached.new.out c.send_reached.result c.in_ok-site.ensures.0 c.requires.node c.requires.edge m.wide (omega (arith, c.if-row-eq0.false)) (omega (arith, c.if-row-gt-REGISTERS.false)) c.requires.row.in_use c.requires.taken sends c.send_reached.ensures.reached in
+    let sends = ap (λ (k : ℕ). edge_of P M site.instr k c.args.e (row_types row) (row_cells m.registers row)) (sym c.in_ok-site-in-Reached.ensures.1) ∙ c.send_reached.ensures.sends in
+    let x = edge_shown (kept_is_well_formed P m.kept) m.number found m.short pc c.args.e m.registers row c.send_reached.new.out c.send_reached.result c.in_ok-site-in-Reached.ensures.0 c.requires.node c.requires.edge m.wide c.in-Reached.ensures.0 c.in-Reached.ensures.1 c.requires.row.in_use c.requires.taken sends c.send_reached.ensures.reached in
     record { shows = x.0; sends = x.1 }
