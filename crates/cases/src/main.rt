@@ -29,9 +29,9 @@ fn answer(rt: &HostRuntime, file: &[u8], set: &mut Set) -> anyhow::Result<()> {
         println!(rt; "refused {} at {}", fault.number(), fault.place())?;
         return Ok(());
     }
-    let classes = set.tables().class_count;
-    let methods = set.tables().method_count;
-    let instructions = set.tables().instr_count;
+    let classes = set.tables().classes.len();
+    let methods = set.tables().methods.len();
+    let instructions = set.tables().instrs.len();
     let again = if same_again(rt.alloc(), file, set)? {
         "the same"
     } else {

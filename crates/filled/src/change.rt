@@ -22,6 +22,7 @@ impl<T: Copy, const N: usize> Filled<T, N> {
     pub fn push(&mut self, x: T) -> Result<(), Full>
         ensures room { IsOk result ↔ (length (items_of self.old) < N) }
         ensures pushed { OnOk result (items_of self.new ≡ items_of self.old ++ x ∷ []) }
+        ensures fits { length (items_of self.old) < N → items_of self.new ≡ items_of self.old ++ x ∷ [] }
         ensures kept { OnErr result (self.new ≡ self.old) }
     {
         let at = self.len;

@@ -3,7 +3,7 @@ use crate::lists::write_list;
 use crate::words::{ClassWord, InstrWord, TypeWord};
 use jinja::program::BUILT_IN;
 use std::fmt;
-use tables::records::{ClassRec, MethodRec, Span};
+use tables::records::{ClassRec, MethodRec};
 use tables::tables::Tables;
 
 /// How much a set has of the most common things.
@@ -17,9 +17,9 @@ pub struct Listing<'a>(pub &'a Tables);
 impl fmt::Display for Counts<'_> {
     fn fmt<W: fmt::Write>(&self, f: &mut fmt::Formatter<W>) -> fmt::Result {
         let t = self.0;
-        let classes = t.class_count;
-        let methods = t.method_count;
-        let instructions = t.instr_count;
+        let classes = t.classes.len();
+        let methods = t.methods.len();
+        let instructions = t.instrs.len();
         write!(
             f,
             "classes {classes} methods {methods} instructions {instructions}"
@@ -30,12 +30,8 @@ impl fmt::Display for Counts<'_> {
 impl fmt::Display for Listing<'_> {
     fn fmt<W: fmt::Write>(&self, f: &mut fmt::Formatter<W>) -> fmt::Result {
         let t = self.0;
-        writeln!(f, "{} handlers {}", Counts(t), t.handler_count)?;
-        let own = Span {
-            first: 0,
-            count: t.class_count,
-        };
-        for (i, class) in part(&t.classes, own).iter().enumerate() {
+        writeln!(f, "{} handlers {}", Counts(t), t.handlers.len())?;
+        for (i, class) in t.classes.as_slice().iter().enumerate() {
             write_class(f, t, i.saturating_add(BUILT_IN), *class)?;
         }
         Ok(())
@@ -49,10 +45,10 @@ fn write_class<W: fmt::Write>(
     class: ClassRec,
 ) -> fmt::Result {
     writeln!(f, "class {number} extends {}", ClassWord(class.superclass))?;
-    for field in part(&t.fields, class.fields) {
+    for field in class.fields.of(t.fields.as_slice()) {
         writeln!(f, "  field named {}: {}", field.name, TypeWord(field.ty))?;
     }
-    for (j, method) in part(&t.methods, class.methods).iter().enumerate() {
+    for (j, method) in class.methods.of(t.methods.as_slice()).iter().enumerate() {
         write_method(f, t, class.methods.first.saturating_add(j), *method)?;
     }
     Ok(())
@@ -68,7 +64,7 @@ fn write_method<W: fmt::Write>(
     write_list(
         f,
         ", ",
-        part(&t.params, method.params)
+        method.params.of(t.params.as_slice())
             .iter()
             .map(|ty| TypeWord(*ty)),
     )?;
@@ -79,11 +75,11 @@ fn write_method<W: fmt::Write>(
         method.height
     )?;
     writeln!(f, ", registers {}", registers_of(method))?;
-    for (at, instr) in part(&t.instrs, method.code).iter().enumerate() {
+    for (at, instr) in method.code.of(t.instrs.as_slice()).iter().enumerate() {
         let instr = *instr;
         writeln!(f, "    {at}: {}", InstrWord { at, instr })?;
     }
-    for handler in part(&t.handlers, method.handlers) {
+    for handler in method.handlers.of(t.handlers.as_slice()) {
         write!(
             f,
             "    handler from {} to before {}",
@@ -107,11 +103,4 @@ pub fn registers_of(method: MethodRec) -> usize {
         .count
         .saturating_add(1)
         .saturating_add(usize::from(method.extras))
-}
-
-// The items of a span, none where it passes the end.
-fn part<T>(items: &[T], span: Span) -> &[T] {
-    items
-        .get(span.first..span.first.saturating_add(span.count))
-        .unwrap_or(&[])
 }

@@ -1,6 +1,6 @@
 -- Tables with one more method.
 use Rattle.std.proofs.Common.{◌≡◌, ℕ, ◌+◌, ◌-◌, ◌≤◌, true, false, List, [], ◌∷◌, ◌++◌, map, length, take, drop, Ok, Err, sym, refl, ap, ◌∙◌, arith}
-use Rattle.std.proofs.lemmas.List.{length_push, map_push, drop-map, drop-take, drop-append-le, take_at}
+use Rattle.std.proofs.lemmas.List.{length_push, map_push, drop-map, drop-append-le, take_at}
 use Rattle.jinja.specs.declared.ty.Ty.{Ty}
 use Rattle.jinja.specs.declared.instr.Instr.{Instr}
 use Rattle.jinja.specs.declared.program.Handler.{Handler}
@@ -16,25 +16,26 @@ use Rattle.tables.specs.declared.records.MethodRec.{MethodRec}
 use Rattle.tables.specs.declared.tables.Tables.{Tables}
 use Rattle.tables.specs.Spans.{Within}
 use Rattle.tables.specs.Views.{classes_of, fields_of, methods_of, params_of, instrs_of, handlers_of, method_view, method_views}
-use Rattle.tables.proofs.Spans.{length_part, length_methods}
+use Rattle.tables.proofs.Spans.{length_part}
 use Rattle.tables.proofs.Positions.{position_map}
 use Rattle.tables.proofs.Numbering.{length_views}
-use Rattle.set.specs.Grown.{Behind, OnlyParams}
+use Rattle.set.specs.Grown.{Behind, lists_of}
 use Rattle.set.specs.Progress.{mine, Tallied, MoreMethods}
+use Rattle.set.proofs.Cut.{cut_all}
 use Rattle.set.proofs.Extends.{front_same, methods_kept, Extends, params_within, code_within, handlers_within, program_kept}
+use Rattle.set.proofs.Kept.{kept_classes, kept_fields, kept_methods, kept_instrs, kept_handlers}
 
 -- the names of the methods are those of the records
-pub names_mine : (file : List ℕ) (t : Tables) (first p : ℕ) → first ≤ length (methods_of t) →
-    name_at file method_name (mine first t) p ≡ name_at file (λ (m : MethodRec). m.name) (take (t.method_count - first) (drop first t.methods)) p
-names_mine file t first p l =
-    let rs = take (t.method_count - first) (drop first t.methods) in
+pub names_mine : (file : List ℕ) (t : Tables) (first p : ℕ) (rs : List MethodRec) → rs ≡ methods_of t →
+    name_at file method_name (mine first t) p ≡ name_at file (λ (m : MethodRec). m.name) (take (length rs - first) (drop first rs)) p
+names_mine file t first p rs e =
+    let own = take (length rs - first) (drop first rs) in
     let view = method_view (params_of t) (instrs_of t) (handlers_of t) in
-    let e : first + (t.method_count - first) ≡ t.method_count = omega (arith, length_methods t) in
-    let cut : drop first (methods_of t) ≡ rs = ap (λ k. drop first (take k t.methods)) (sym e) ∙ drop-take first (t.method_count - first) t.methods in
-    let same : (n : ℕ) → unused method_name n (mine first t) ≡ unused (λ (m : MethodRec). m.name) n rs =
-    λ n. ap (unused method_name n) (drop-map view first (methods_of t) ∙ ap (map view) cut) ∙ ap (λ o. maybe o true (λ _. false)) (position_map method_name view n rs) in
+    let cut : drop first (methods_of t) ≡ own = sym (cut_all first rs (methods_of t) e) in
+    let same : (n : ℕ) → unused method_name n (mine first t) ≡ unused (λ (m : MethodRec). m.name) n own =
+    λ n. ap (unused method_name n) (drop-map view first (methods_of t) ∙ ap (map view) cut) ∙ ap (λ o. maybe o true (λ _. false)) (position_map method_name view n own) in
     let Goal : Read ℕ → Type 0 = λ x. then x (λ n q. checked (unused method_name n (mine first t)) (Twice p) (Ok (n, q)))
-    ≡ then x (λ n q. checked (unused (λ (m : MethodRec). m.name) n rs) (Twice p) (Ok (n, q))) in
+    ≡ then x (λ n q. checked (unused (λ (m : MethodRec). m.name) n own) (Twice p) (Ok (n, q))) in
     let go : (x : Read ℕ) → Goal x = λ x. elim x as Goal [ Ok r ↦ ap (λ b. checked b (Twice p) (Ok (r.0, r.1))) (same r.0) | Err f ↦ refl ] in
     go (at_most file max_name p)
 
@@ -45,15 +46,15 @@ pub behind_within : {X : Type 0} {old new : List X} {s : Span} → Behind old ne
 behind_within b = omega (arith, b.all)
 
 -- parameter types alone change no class and no method
-pub params_extend : (t u : Tables) (s : Span) → OnlyParams t u → Behind (params_of t) (params_of u) s → Extends t u
+pub params_extend : (t u : Tables) (s : Span) → lists_of u ≡ record (lists_of t) { params = params_of u } → Behind (params_of t) (params_of u) s → Extends t u
 params_extend t u s o b =
     record {
-      classes = o.classes;
-      fields = front_same _ _ o.fields;
-      methods = front_same _ _ o.methods;
+      classes = (kept_classes o);
+      fields = front_same _ _ (kept_fields o);
+      methods = front_same _ _ (kept_methods o);
       params = b.front;
-      instrs = front_same _ _ o.instrs;
-      handlers = front_same _ _ o.handlers;
+      instrs = front_same _ _ (kept_instrs o);
+      handlers = front_same _ _ (kept_handlers o);
     }
 
 pub view_as : {ps ps' : List Ty} {is is' : List Instr} {hs hs' : List Handler} → ps' ≡ ps → is' ≡ is → hs' ≡ hs → (r : MethodRec) → method_view ps' is' hs' r ≡ method_view ps is hs r
@@ -95,7 +96,7 @@ module _ (t u : Tables) (r : MethodRec) (classes : classes_of u ≡ classes_of t
   module _ (first : ℕ) (tallied : Tallied first t) where
     pub mine_more : mine first u ≡ mine first t ++ method_view (params_of u) (instrs_of u) (handlers_of u) r ∷ []
     mine_more =
-        let l : first ≤ length (method_views t) = omega (arith, tallied.within, length_views t, length_methods t) in
+        let l : first ≤ length (method_views t) = omega (arith, tallied.within, length_views t) in
         ap (drop first) views_more ∙ drop-append-le first (method_views t) (method_view (params_of u) (instrs_of u) (handlers_of u) r ∷ []) l
 
     pub tallied_more : r.params.count ≤ max_params → Tallied first u

@@ -5,7 +5,6 @@ use Rattle.jinja.specs.Lookups.{count_methods}
 use Rattle.format.specs.Rules.{count_code, count_handlers, program_code, program_handlers}
 use Rattle.tables.specs.declared.tables.Tables.{Tables}
 use Rattle.tables.specs.Views.{fields_of, methods_of, method_views, class_view, program_of}
-use Rattle.tables.proofs.Spans.{length_methods}
 use Rattle.tables.proofs.Numbering.{length_views}
 use Rattle.set.specs.Progress.{mine, Full, Empty}
 
@@ -16,7 +15,7 @@ module _ (t : Tables) (e : Empty t) where
 
   pub empty_full : Full t
   empty_full =
-      let none : mine (length (methods_of t)) t ≡ [] = drop_all (length (methods_of t)) (method_views t) (omega (arith, length_views t, length_methods t)) in
+      let none : mine (length (methods_of t)) t ≡ [] = drop_all (length (methods_of t)) (method_views t) (omega (arith, length_views t)) in
       record {
         whole = omega (arith, ap count_methods no_program, ap length e.methods);
         tallied = record {

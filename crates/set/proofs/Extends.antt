@@ -1,7 +1,7 @@
 -- Tables that grow at their ends: what their spans hold stays as it was.
-use Rattle.std.proofs.Common.{◌≡◌, List, [], ◌∷◌, map, length, take, sym, refl, ap, ◌∙◌, arith}
+use Rattle.std.proofs.Common.{◌≡◌, ℕ, ◌+◌, ◌-◌, ◌≤◌, List, [], ◌∷◌, map, length, take, drop, sym, refl, ap, ◌∙◌, arith}
 use Rattle.std.specs.List.{AllByRecursion}
-use Rattle.std.proofs.lemmas.List.{length-map, take-map, take_all}
+use Rattle.std.proofs.lemmas.List.{length-map, take-map, take_all, drop-take, take-take}
 use Rattle.jinja.specs.declared.ty.Ty.{Ty}
 use Rattle.jinja.specs.declared.ty.Ty.TheVariants.{Void}
 use Rattle.jinja.specs.declared.instr.Instr.{Instr}
@@ -14,7 +14,7 @@ use Rattle.tables.specs.declared.records.MethodRec.{MethodRec}
 use Rattle.tables.specs.declared.tables.Tables.{Tables}
 use Rattle.tables.specs.Spans.{part, Within, FieldsWithin, MethodsWithin, ParamsWithin, CodeWithin, HandlersWithin}
 use Rattle.tables.specs.Views.{classes_of, fields_of, methods_of, params_of, instrs_of, handlers_of, method_view, method_views, class_view, program_of}
-use Rattle.tables.proofs.Spans.{all_filled, part_in, count_fields, count_params, count_instrs, count_handlers}
+use Rattle.tables.proofs.Spans.{all_along}
 use Rattle.tables.proofs.Numbering.{length_views, methods_within, fields_within}
 
 -- ys begins with xs
@@ -23,6 +23,14 @@ Front xs ys = take (length xs) ys ≡ xs
 
 pub front_same : {X : Type 0} (xs ys : List X) → ys ≡ xs → Front xs ys
 front_same xs ys e = ap (take (length xs)) e ∙ take_all (length xs) xs (omega arith)
+
+-- a span within the front
+pub part_in : {X : Type 0} (s : Span) (n : ℕ) (xs : List X) → Within n s → part s (take n xs) ≡ part s xs
+part_in s n xs h =
+    let e : s.first + (n - s.first) ≡ n = omega arith in
+    let d : drop s.first (take n xs) ≡ take (n - s.first) (drop s.first xs) = rw e at (drop-take s.first (n - s.first) xs) in
+    let l : s.count ≤ n - s.first = omega arith in
+    rw d (take-take s.count (n - s.first) (drop s.first xs) l)
 
 part_front : {X : Type 0} (s : Span) (xs ys : List X) → Front xs ys → Within (length xs) s → part s ys ≡ part s xs
 part_front s xs ys f w = sym (part_in s (length xs) ys w) ∙ ap (part s) f
@@ -48,20 +56,20 @@ pub record Extends (t u : Tables) : Type 0 where
   pub instrs : Front (instrs_of t) (instrs_of u)
   pub handlers : Front (handlers_of t) (handlers_of u)
 
-no_method : MethodRec
+pub no_method : MethodRec
 no_method =
     let none : Span = record { first = 0; count = 0 } in
     record { name = 0; params = none; result = Void; height = 0; extras = 0; code = none; handlers = none }
 
 module _ (t : Tables) where
   pub params_within : AllByRecursion (ParamsWithin (length (params_of t))) (methods_of t)
-  params_within = rw (count_params t) (all_filled (ParamsWithin t.param_count) t.method_count t.methods no_method t.method_params)
+  params_within = all_along (ParamsWithin (length (params_of t))) (methods_of t) no_method t.method_params
 
   pub code_within : AllByRecursion (CodeWithin (length (instrs_of t))) (methods_of t)
-  code_within = rw (count_instrs t) (all_filled (CodeWithin t.instr_count) t.method_count t.methods no_method t.method_code)
+  code_within = all_along (CodeWithin (length (instrs_of t))) (methods_of t) no_method t.method_code
 
   pub handlers_within : AllByRecursion (HandlersWithin (length (handlers_of t))) (methods_of t)
-  handlers_within = rw (count_handlers t) (all_filled (HandlersWithin t.handler_count) t.method_count t.methods no_method t.method_handlers)
+  handlers_within = all_along (HandlersWithin (length (handlers_of t))) (methods_of t) no_method t.method_handlers
 
 module _ (t u : Tables) (e : Extends t u) where
   pub views_front : Front (method_views t) (method_views u)
@@ -76,4 +84,4 @@ module _ (t u : Tables) (e : Extends t u) where
   unfolding program_of
   program_kept =
       ap (map (class_view (fields_of u) (method_views u))) e.classes
-      ∙ classes_kept (fields_of t) (fields_of u) (method_views t) (method_views u) e.fields views_front (classes_of t) (rw (count_fields t) (fields_within t)) (rw (length_views t) (methods_within t))
+      ∙ classes_kept (fields_of t) (fields_of u) (method_views t) (method_views u) e.fields views_front (classes_of t) (fields_within t) (rw (length_views t) (methods_within t))

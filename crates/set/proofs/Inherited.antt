@@ -16,9 +16,10 @@ use Rattle.tables.specs.declared.records.MethodRec.{MethodRec}
 use Rattle.tables.specs.declared.tables.Tables.{Tables}
 use Rattle.tables.specs.Spans.{part, chained, MethodsWithin}
 use Rattle.tables.specs.Views.{classes_of, fields_of, methods_of, params_of, instrs_of, handlers_of, method_view, method_views, class_view, program_of}
-use Rattle.tables.proofs.Spans.{length_part, length_methods}
+use Rattle.tables.proofs.Spans.{length_part}
 use Rattle.tables.proofs.Programs.{nth_map}
 use Rattle.tables.proofs.Numbering.{length_views, methods_within}
+use Rattle.set.proofs.Extends.{no_method}
 
 position_below : {A : Type 0} (name : A → ℕ) (n : ℕ) (xs : List A) (j : ℕ) → position name n xs ≡ Some j → j < length xs
 position_below name n [] j e = absurd (let z : ◌≡◌ {A = ℕ} 0 1 = cc in omega arith)
@@ -104,39 +105,36 @@ module _ (t : Tables) where
   unfolding program_of
   program_methods = methods_joined 0 (table (program_of t)) ∙ chain_joined (fields_of t) (method_views t) 0 (classes_of t) t.numbered within
 
-  pub few_methods : count_methods (program_of t) ≤ t.method_count
+  pub few_methods : count_methods (program_of t) ≤ (length (methods_of t))
   unfolding program_of
   few_methods = let e = chain_end (fields_of t) (method_views t) 0 (classes_of t) t.numbered within (omega arith) in omega (arith, length_views t)
 
   -- the method that a class sees stands in the tables under its number
   module _ (s m k : ℕ) (seen : sees (program_of t) s m ≡ Some k) where
-    pub seen_below : k < t.method_count
-    unfolding sees
-    seen_below = omega (arith, sees_below (program_of t) s s m k seen, few_methods)
-
-    pub inherited_at : (d : MethodRec) → inherited (program_of t) s m ≡ Some (method_view (params_of t) (instrs_of t) (handlers_of t) (get_or t.methods k d))
+    pub inherited_at : inherited (program_of t) s m ≡ maybe (slice_get (methods_of t) k) None (λ r. Some (method_view (params_of t) (instrs_of t) (handlers_of t) r))
     unfolding sees method_at
-    inherited_at d =
+    inherited_at =
         let P = program_of t in
         let view = method_view (params_of t) (instrs_of t) (handlers_of t) in
         let b = sees_below P s s m k seen in
         let lc : length (take (count_methods P) (method_views t)) ≡ count_methods P = length-take-le (count_methods P) (method_views t) (omega (arith, few_methods, length_views t)) in
         let lt : k < length (take (count_methods P) (method_views t)) = omega arith in
         let lv : k < length (method_views t) = omega (arith, few_methods, length_views t) in
-        let lm : k < length (methods_of t) = omega (arith, few_methods, length_methods t) in
-        let km : k < t.method_count = omega (arith, few_methods) in
+        let lm : k < length (methods_of t) = omega (arith, few_methods) in
+        let d = view (get_or (methods_of t) k no_method) in
         let a : maybe (method_at P k) None (λ o. Some o.method) ≡ slice_get (method_views t) k =
         sym (nth_map (λ (o : Owned). o.method) (methods_from 0 (table P)) k)
         ∙ (ap (λ xs. slice_get xs k) program_methods
-        ∙ (slice_get-get_or (take (count_methods P) (method_views t)) k (view d) lt
-        ∙ (ap Some (get_or-take (count_methods P) (method_views t) k (view d) b) ∙ sym (slice_get-get_or (method_views t) k (view d) lv)))) in
-        ap (λ o. maybe o None (λ k. maybe (method_at P k) None (λ o. Some o.method))) seen
-        ∙ (a ∙ (nth_map view (methods_of t) k
-        ∙ (ap (λ o. maybe o None (λ x. Some (view x))) (slice_get-get_or (methods_of t) k d lm) ∙ ap (λ x. Some (view x)) (get_or-take t.method_count t.methods k d km))))
+        ∙ (slice_get-get_or (take (count_methods P) (method_views t)) k d lt
+        ∙ (ap Some (get_or-take (count_methods P) (method_views t) k d b) ∙ sym (slice_get-get_or (method_views t) k d lv)))) in
+        ap (λ o. maybe o None (λ k. maybe (method_at P k) None (λ o. Some o.method))) seen ∙ (a ∙ nth_map view (methods_of t) k)
 
-    pub override_at : (ps : List Ty) (r : Ty) (d : MethodRec) →
-        override_keeps (program_of t) s m ps r ≡ (same_types ps (part (get_or t.methods k d).params (params_of t)) && same_type r (get_or t.methods k d).result)
-    override_at ps r d = ap (λ o. maybe o true (λ upper. overrides (heading m ps r) upper)) (inherited_at d)
+pub unseen : (P : Program) (s m : ℕ) → sees P s m ≡ None → inherited P s m ≡ None
+unseen P s m e = rw e refl
 
-pub override_free : (P : Program) (s m : ℕ) (ps : List Ty) (r : Ty) → sees P s m ≡ None → override_keeps P s m ps r ≡ true
-override_free P s m ps r e = rw e refl
+-- whether a method may stand in for the one that its class inherits
+pub free : (P : Program) (s m : ℕ) (ps : List Ty) (r : Ty) → inherited P s m ≡ None → override_keeps P s m ps r ≡ true
+free P s m ps r e = rw e refl
+
+pub bound : (P : Program) (s m : ℕ) (ps : List Ty) (r : Ty) (u : MethodDecl) → inherited P s m ≡ Some u → override_keeps P s m ps r ≡ (same_types ps u.params && same_type r u.result)
+bound P s m ps r u e = rw e refl

@@ -1,25 +1,48 @@
--- Lists of types, compared one by one.
-use Rattle.std.proofs.Common.{◌≡◌, ℕ, suc, ◌+◌, ◌<◌, ◌≤◌, true, false, ◌&&◌, List, [], ◌∷◌, length, get_or, drop, sym, refl, ap, ◌∙◌}
-use Rattle.std.proofs.lemmas.List.{drop_more, drop_all}
-use Rattle.std.proofs.lemmas.Bool.{and_right}
+-- Types are equal, one by one, where their numbers are.
+use Rattle.std.proofs.Common.{◌≡◌, ℕ, ◌+◌, ◌&&◌, eqb, List, [], ◌∷◌, true≢false, sym, refl, ap₂, ◌∙◌, inl, inr, arith}
+use Rattle.std.proofs.lemmas.Bool.{cases_Bool, eq-eqb, ne_eqb, eqb-true}
+use Rattle.std.specs.Cmp.Lexicographic.{pointwise}
 use Rattle.jinja.specs.declared.ty.Ty.{Ty}
+use Rattle.jinja.specs.declared.ty.Ty.TheVariants.{Void, Boolean, Integer, NullType, Class}
 use Rattle.jinja.specs.Types.{same_type, same_types}
+use Rattle.jinja.specs.contracts.ty.TyPartialEq.TheImpl.{eq-value}
 
-pub other_length : (ts us : List Ty) → (length ts ≡ length us → ⊥) → same_types ts us ≡ false
-other_length [] [] h = absurd (h refl)
-other_length [] (u ∷ us) h = refl
-other_length (t ∷ ts) [] h = refl
-other_length (t ∷ ts) (u ∷ us) h = and_right (same_type t u) (same_types ts us) (other_length ts us (λ e. h (ap suc e)))
+same_class : (c d : ℕ) → eqb c d ≡ eqb (4 + c) (4 + d)
+same_class c d =
+    elim (cases_Bool (eqb c d)) [
+      | inl t ↦ t ∙ sym (eq-eqb (4 + c) (4 + d) (omega (arith, eqb-true c d t)))
+      | inr f ↦ f ∙ sym (ne_eqb (4 + c) (4 + d) (λ e. true≢false (sym (eq-eqb c d (omega arith)) ∙ f)))
+    ]
 
-module _ (ts us : List Ty) (i : ℕ) where
-  turn : (d e : Ty) → i < length ts → i < length us → same_types (drop i ts) (drop i us) ≡ (same_type (get_or ts i d) (get_or us i e) && same_types (drop (i + 1) ts) (drop (i + 1) us))
-  turn d e l m = rw (drop_more ts i d l, drop_more us i e m) refl
+pub same_ty : (t u : Ty) → (eq-value).it t u ≡ same_type t u
+same_ty Void Void = refl
+same_ty Void Boolean = refl
+same_ty Void Integer = refl
+same_ty Void NullType = refl
+same_ty Void (Class d) = sym (ne_eqb 0 (4 + d) (λ e. omega arith))
+same_ty Boolean Void = refl
+same_ty Boolean Boolean = refl
+same_ty Boolean Integer = refl
+same_ty Boolean NullType = refl
+same_ty Boolean (Class d) = sym (ne_eqb 1 (4 + d) (λ e. omega arith))
+same_ty Integer Void = refl
+same_ty Integer Boolean = refl
+same_ty Integer Integer = refl
+same_ty Integer NullType = refl
+same_ty Integer (Class d) = sym (ne_eqb 2 (4 + d) (λ e. omega arith))
+same_ty NullType Void = refl
+same_ty NullType Boolean = refl
+same_ty NullType Integer = refl
+same_ty NullType NullType = refl
+same_ty NullType (Class d) = sym (ne_eqb 3 (4 + d) (λ e. omega arith))
+same_ty (Class c) Void = sym (ne_eqb (4 + c) 0 (λ e. omega arith))
+same_ty (Class c) Boolean = sym (ne_eqb (4 + c) 1 (λ e. omega arith))
+same_ty (Class c) Integer = sym (ne_eqb (4 + c) 2 (λ e. omega arith))
+same_ty (Class c) NullType = sym (ne_eqb (4 + c) 3 (λ e. omega arith))
+same_ty (Class c) (Class d) = same_class c d
 
-  pub same_here : (d e : Ty) → i < length ts → i < length us → same_type (get_or ts i d) (get_or us i e) ≡ true → same_types (drop (i + 1) ts) (drop (i + 1) us) ≡ same_types (drop i ts) (drop i us)
-  same_here d e l m h = sym (turn d e l m ∙ ap (λ b. b && same_types (drop (i + 1) ts) (drop (i + 1) us)) h)
-
-  pub other_here : (d e : Ty) → i < length ts → i < length us → same_type (get_or ts i d) (get_or us i e) ≡ false → same_types (drop i ts) (drop i us) ≡ false
-  other_here d e l m h = turn d e l m ∙ ap (λ b. b && same_types (drop (i + 1) ts) (drop (i + 1) us)) h
-
-  pub same_all : length ts ≤ i → length us ≤ i → same_types (drop i ts) (drop i us) ≡ true
-  same_all l m = rw (drop_all i ts l, drop_all i us m) refl
+pub same_tys : (ts us : List Ty) → pointwise (eq-value).it ts us ≡ same_types ts us
+same_tys [] [] = refl
+same_tys [] (u ∷ us) = refl
+same_tys (t ∷ ts) [] = refl
+same_tys (t ∷ ts) (u ∷ us) = ap₂ ◌&&◌ (same_ty t u) (same_tys ts us)

@@ -1,6 +1,12 @@
 -- How reading changes tables: one grows at its end, and the others stay as they are.
 use Rattle.std.specs.Prelude.{◌≡◌, ℕ, ◌+◌, List, length, take, Ok, Err, Result, MatchResult}
+use Rattle.jinja.specs.declared.ty.Ty.{Ty}
+use Rattle.jinja.specs.declared.instr.Instr.{Instr}
+use Rattle.jinja.specs.declared.program.Field.{Field}
+use Rattle.jinja.specs.declared.program.Handler.{Handler}
 use Rattle.tables.specs.declared.records.Span.{Span}
+use Rattle.tables.specs.declared.records.ClassRec.{ClassRec}
+use Rattle.tables.specs.declared.records.MethodRec.{MethodRec}
 use Rattle.tables.specs.declared.tables.Tables.{Tables}
 use Rattle.tables.specs.Spans.{part}
 use Rattle.tables.specs.Views.{classes_of, fields_of, methods_of, params_of, instrs_of, handlers_of}
@@ -17,50 +23,15 @@ pub record Behind {A : Type 0} (old new : List A) (s : Span) : Type 0 where
 abbrev pub Grew : {A : Type 0} → Result Span TableFault → List A → List A → ℕ → Read (List A) → Type 0
 Grew r old new q X = MatchResult r (λ s. (X ≡ Ok (part s new, q)) × Behind old new s) (λ e. X ≡ Err e)
 
--- all but the classes
-pub record OnlyClasses (t u : Tables) : Type 0 where
-  pub fields : fields_of u ≡ fields_of t
-  pub methods : methods_of u ≡ methods_of t
-  pub params : params_of u ≡ params_of t
-  pub instrs : instrs_of u ≡ instrs_of t
-  pub handlers : handlers_of u ≡ handlers_of t
+-- what the six tables hold
+pub record Lists : Type 0 where
+  pub classes : List ClassRec
+  pub fields : List Field
+  pub methods : List MethodRec
+  pub params : List Ty
+  pub instrs : List Instr
+  pub handlers : List Handler
 
--- all but the fields
-pub record OnlyFields (t u : Tables) : Type 0 where
-  pub classes : classes_of u ≡ classes_of t
-  pub methods : methods_of u ≡ methods_of t
-  pub params : params_of u ≡ params_of t
-  pub instrs : instrs_of u ≡ instrs_of t
-  pub handlers : handlers_of u ≡ handlers_of t
-
--- all but the methods
-pub record OnlyMethods (t u : Tables) : Type 0 where
-  pub classes : classes_of u ≡ classes_of t
-  pub fields : fields_of u ≡ fields_of t
-  pub params : params_of u ≡ params_of t
-  pub instrs : instrs_of u ≡ instrs_of t
-  pub handlers : handlers_of u ≡ handlers_of t
-
--- all but the parameter types
-pub record OnlyParams (t u : Tables) : Type 0 where
-  pub classes : classes_of u ≡ classes_of t
-  pub fields : fields_of u ≡ fields_of t
-  pub methods : methods_of u ≡ methods_of t
-  pub instrs : instrs_of u ≡ instrs_of t
-  pub handlers : handlers_of u ≡ handlers_of t
-
--- all but the instructions
-pub record OnlyInstrs (t u : Tables) : Type 0 where
-  pub classes : classes_of u ≡ classes_of t
-  pub fields : fields_of u ≡ fields_of t
-  pub methods : methods_of u ≡ methods_of t
-  pub params : params_of u ≡ params_of t
-  pub handlers : handlers_of u ≡ handlers_of t
-
--- all but the handlers
-pub record OnlyHandlers (t u : Tables) : Type 0 where
-  pub classes : classes_of u ≡ classes_of t
-  pub fields : fields_of u ≡ fields_of t
-  pub methods : methods_of u ≡ methods_of t
-  pub params : params_of u ≡ params_of t
-  pub instrs : instrs_of u ≡ instrs_of t
+abbrev pub lists_of : Tables → Lists
+lists_of t =
+    record { classes = classes_of t; fields = fields_of t; methods = methods_of t; params = params_of t; instrs = instrs_of t; handlers = handlers_of t }

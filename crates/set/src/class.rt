@@ -1,12 +1,12 @@
 // A class, read behind those that the tables have.
 ghost use Rattle.std.specs.Prelude.{◌≡◌, ◌+◌, ◌<◌, ◌≤◌, length, OnOk};
-ghost use Rattle.number.specs.Numbers.{Gave};
 ghost use Rattle.number.specs.Places.{file_of, place_of};
 ghost use Rattle.format.specs.Reading.{Left};
 ghost use Rattle.tables.specs.Views.{classes_of, program_of};
 ghost use Rattle.set.specs.Counts.{below_at};
 ghost use Rattle.set.specs.Progress.{Full, class_step};
 ghost use Rattle.format.specs.Limits.{all_classes, max_classes};
+ghost use Rattle.set.specs.Taken.{Took};
 
 use crate::methods::read_methods;
 use crate::push::push_class;
@@ -20,8 +20,7 @@ use tables::tables::Tables;
 // The superclass of a class that has `known` own classes before it.
 fn read_superclass(c: &mut Cursor, known: usize) -> Result<ClassNumber, TableFault>
     requires { known ≤ max_classes }
-    ensures file { file_of c.new ≡ file_of c.old }
-    ensures gave { Gave result (place_of c.new) (below_at (file_of c.old) (4 + known) (place_of c.old)) }
+    ensures { Took result c.old c.new (λ file p. below_at file (4 + known) p) }
 {
     let start = c.place();
     let s = c.number()?;
@@ -41,7 +40,7 @@ pub(crate) fn read_class(c: &mut Cursor, n: u32, t: &mut Tables) -> Result<(), T
     ensures more { OnOk result (length (classes_of t.new) ≡ length (classes_of t.old) + 1) }
     ensures gave { Left result (program_of t.new, place_of c.new) (class_step (file_of c.old) n (program_of t.old) (place_of c.old)) }
 {
-    let superclass = read_superclass(c, t.class_count)?;
+    let superclass = read_superclass(c, t.classes.len())?;
     let inherited = t.row_len(superclass);
     let fields = read_fields(c, n, inherited, t)?;
     let methods = read_methods(c, n, superclass, t)?;

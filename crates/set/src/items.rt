@@ -1,12 +1,10 @@
 // What stands in a file between its counts: limited numbers, types, instructions and handlers.
 ghost use Rattle.std.specs.Prelude.{◌≡◌, ◌≤◌};
-ghost use Rattle.number.specs.Numbers.{Gave};
-ghost use Rattle.number.specs.Places.{file_of, place_of};
 ghost use Rattle.number.specs.Signed.{signed};
 ghost use Rattle.format.specs.Limits.{max_operand, max_handler_number, max_offset, all_classes};
 ghost use Rattle.format.specs.Reading.{at_most};
 ghost use Rattle.format.specs.Parse.{type_at, boolean_at, literal_at, instr_at, handler_at};
-ghost use Rattle.jinja.specs.Types.{type_of_number};
+ghost use Rattle.set.specs.Taken.{Took};
 
 use format::fault::TableFault;
 use format::limits::{MAX_HANDLER_NUMBER, MAX_OFFSET, MAX_OPERAND};
@@ -18,8 +16,7 @@ use number::signed::to_signed;
 
 // A number that is at most `most`.
 pub(crate) fn at_most(c: &mut Cursor, most: u32) -> Result<u32, TableFault>
-    ensures file { file_of c.new ≡ file_of c.old }
-    ensures gave { Gave result (place_of c.new) (at_most (file_of c.old) most (place_of c.old)) }
+    ensures { Took result c.old c.new (λ file p. at_most file most p) }
 {
     let start = c.place();
     let n = c.number()?;
@@ -31,8 +28,7 @@ pub(crate) fn at_most(c: &mut Cursor, most: u32) -> Result<u32, TableFault>
 
 // A name, a class, a register or an argument count: a number of a byte.
 pub(crate) fn read_operand(c: &mut Cursor) -> Result<u8, TableFault>
-    ensures file { file_of c.new ≡ file_of c.old }
-    ensures gave { Gave result (place_of c.new) (at_most (file_of c.old) max_operand (place_of c.old)) }
+    ensures { Took result c.old c.new (λ file p. at_most file max_operand p) }
 {
     let n = at_most(c, MAX_OPERAND)?;
     Ok(n as u8)
@@ -40,8 +36,7 @@ pub(crate) fn read_operand(c: &mut Cursor) -> Result<u8, TableFault>
 
 // The offset of a jump.
 fn read_offset(c: &mut Cursor) -> Result<u32, TableFault>
-    ensures file { file_of c.new ≡ file_of c.old }
-    ensures gave { Gave result (place_of c.new) (at_most (file_of c.old) max_offset (place_of c.old)) }
+    ensures { Took result c.old c.new (λ file p. at_most file max_offset p) }
 {
     at_most(c, MAX_OFFSET)
 }
@@ -53,37 +48,22 @@ fn offset(n: u32) -> i16
     to_signed(n) as i16
 }
 
-// The type of a number below 260.
-fn type_of(t: u32) -> Ty
-    requires { t ≤ 259 }
-    ensures { result ≡ type_of_number t }
-{
-    match t {
-        0 => Ty::Void,
-        1 => Ty::Boolean,
-        2 => Ty::Integer,
-        3 => Ty::NullType,
-        _ => Ty::Class((t - 4) as u8),
-    }
-}
-
 // A type, where there are `n` classes in all.
 pub(crate) fn read_type(c: &mut Cursor, n: u32) -> Result<Ty, TableFault>
     requires { n ≤ all_classes }
-    ensures file { file_of c.new ≡ file_of c.old }
-    ensures gave { Gave result (place_of c.new) (type_at (file_of c.old) n (place_of c.old)) }
+    ensures { Took result c.old c.new (λ file p. type_at file n p) }
 {
     let start = c.place();
     let t = c.number()?;
     if t >= 4 + n {
         return Err(TableFault::Classless(start));
     }
-    Ok(type_of(t))
+    Ty::try_from(t as u16).or(Err(TableFault::Classless(start)))
 }
 
+// Booleans, literals and instructions are numbers in a file: the numbers of the matches are the format itself.
 fn read_boolean(c: &mut Cursor) -> Result<bool, TableFault>
-    ensures file { file_of c.new ≡ file_of c.old }
-    ensures gave { Gave result (place_of c.new) (boolean_at (file_of c.old) (place_of c.old)) }
+    ensures { Took result c.old c.new boolean_at }
 {
     let start = c.place();
     match c.number()? {
@@ -94,8 +74,7 @@ fn read_boolean(c: &mut Cursor) -> Result<bool, TableFault>
 }
 
 fn read_literal(c: &mut Cursor) -> Result<Literal, TableFault>
-    ensures file { file_of c.new ≡ file_of c.old }
-    ensures gave { Gave result (place_of c.new) (literal_at (file_of c.old) (place_of c.old)) }
+    ensures { Took result c.old c.new literal_at }
 {
     let start = c.place();
     match c.number()? {
@@ -111,8 +90,7 @@ fn read_literal(c: &mut Cursor) -> Result<Literal, TableFault>
 }
 
 pub(crate) fn read_instr(c: &mut Cursor) -> Result<Instr, TableFault>
-    ensures file { file_of c.new ≡ file_of c.old }
-    ensures gave { Gave result (place_of c.new) (instr_at (file_of c.old) (place_of c.old)) }
+    ensures { Took result c.old c.new instr_at }
 {
     let start = c.place();
     match c.number()? {
@@ -137,16 +115,14 @@ pub(crate) fn read_instr(c: &mut Cursor) -> Result<Instr, TableFault>
 
 // A place or a depth of a handler.
 fn read_handler_number(c: &mut Cursor) -> Result<u16, TableFault>
-    ensures file { file_of c.new ≡ file_of c.old }
-    ensures gave { Gave result (place_of c.new) (at_most (file_of c.old) max_handler_number (place_of c.old)) }
+    ensures { Took result c.old c.new (λ file p. at_most file max_handler_number p) }
 {
     let n = at_most(c, MAX_HANDLER_NUMBER)?;
     Ok(n as u16)
 }
 
 pub(crate) fn read_handler(c: &mut Cursor) -> Result<Handler, TableFault>
-    ensures file { file_of c.new ≡ file_of c.old }
-    ensures gave { Gave result (place_of c.new) (handler_at (file_of c.old) (place_of c.old)) }
+    ensures { Took result c.old c.new handler_at }
 {
     let first = read_handler_number(c)?;
     let end = read_handler_number(c)?;

@@ -3,7 +3,6 @@
 
 mod class;
 mod counted;
-mod grow;
 mod items;
 mod make;
 mod method;

@@ -1,6 +1,5 @@
 // A method of a class, read behind those that the tables have.
 ghost use Rattle.std.specs.Prelude.{◌≡◌, ◌<◌, ◌≤◌, length, OnOk};
-ghost use Rattle.number.specs.Numbers.{Gave};
 ghost use Rattle.number.specs.Places.{file_of, place_of};
 ghost use Rattle.format.specs.Reading.{Left};
 ghost use Rattle.format.specs.Parse.{result_at};
@@ -8,6 +7,7 @@ ghost use Rattle.tables.specs.Spans.{part, Within};
 ghost use Rattle.tables.specs.Views.{methods_of, params_of, program_of};
 ghost use Rattle.set.specs.Progress.{mine, Tallied, MoreMethods, method_step};
 ghost use Rattle.format.specs.Limits.{all_classes, max_methods};
+ghost use Rattle.set.specs.Taken.{Took};
 
 use crate::items::{at_most, read_type};
 use crate::names::read_name;
@@ -33,8 +33,7 @@ fn read_result(
 ) -> Result<Ty, TableFault>
     requires few { n ≤ all_classes }
     requires within { Within (length (params_of t.now)) params }
-    ensures file { file_of c.new ≡ file_of c.old }
-    ensures gave { Gave result (place_of c.new) (result_at (file_of c.old) n (program_of t.now) s name (part params (params_of t.now)) (place_of c.old)) }
+    ensures { Took result c.old c.new (λ file p. result_at file n (program_of t.now) s name (part params (params_of t.now)) p) }
 {
     let start = c.place();
     let result = read_type(c, n)?;
@@ -60,8 +59,7 @@ pub(crate) fn read_method(
     ensures more { OnOk result (MoreMethods 1 t.old t.new) }
     ensures gave { Left result (mine first t.new, place_of c.new) (method_step (file_of c.old) n (program_of t.old) s (mine first t.old) (place_of c.old)) }
 {
-    let end = t.method_count;
-    let name = read_name(c, &t.methods[first..end])?;
+    let name = read_name(c, &t.methods.as_slice()[first..])?;
     let params = read_params(c, n, t)?;
     let result = read_result(c, n, s, name, params, t)?;
     let height = at_most(c, MAX_HEIGHT)?;

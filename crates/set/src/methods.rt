@@ -58,7 +58,7 @@ pub(crate) fn read_methods(
         (λ k. methods_at (file_of c.old) n (program_of t.old) s (place_of c.old) ≡ Ok (mine k.first t.new, place_of c.new))
         (λ e. methods_at (file_of c.old) n (program_of t.old) s (place_of c.old) ≡ Err e) }
 {
-    let first = t.method_count;
+    let first = t.methods.len();
     let count = read_more(c, first, MAX_METHODS)?;
     add_methods(c, n, s, first, count, t)?;
     Ok(Span { first, count })

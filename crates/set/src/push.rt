@@ -2,7 +2,7 @@
 ghost use Rattle.std.specs.Prelude.{◌≡◌, ◌<◌, true, [], ◌∷◌, ◌++◌, length};
 ghost use Rattle.tables.specs.Spans.{FieldsWithin, MethodsWithin, ParamsWithin, CodeWithin, HandlersWithin, chained};
 ghost use Rattle.tables.specs.Views.{classes_of, fields_of, methods_of, params_of, instrs_of, handlers_of, program_of};
-ghost use Rattle.set.specs.Grown.{OnlyClasses, OnlyMethods};
+ghost use Rattle.set.specs.Grown.{lists_of};
 ghost use Rattle.set.specs.Progress.{Empty};
 ghost use Rattle.format.specs.Limits.{max_classes, max_methods};
 
@@ -15,10 +15,10 @@ pub(crate) fn push_method(t: &mut Tables, m: MethodRec)
     requires code { CodeWithin (length (instrs_of t.old)) m }
     requires handlers { HandlersWithin (length (handlers_of t.old)) m }
     ensures methods { methods_of t.new ≡ methods_of t.old ++ m ∷ [] }
-    ensures rest { OnlyMethods t.old t.new }
+    ensures rest { lists_of t.new ≡ record (lists_of t.old) { methods = methods_of t.new } }
 {
-    t.methods[t.method_count] = m;
-    t.method_count += 1;
+    // there is room
+    let _ = t.methods.push(m);
 }
 
 pub(crate) fn push_class(t: &mut Tables, k: ClassRec)
@@ -27,20 +27,20 @@ pub(crate) fn push_class(t: &mut Tables, k: ClassRec)
     requires methods { MethodsWithin (length (methods_of t.old)) k }
     requires numbered { chained 0 (classes_of t.old ++ k ∷ []) ≡ true }
     ensures classes { classes_of t.new ≡ classes_of t.old ++ k ∷ [] }
-    ensures rest { OnlyClasses t.old t.new }
+    ensures rest { lists_of t.new ≡ record (lists_of t.old) { classes = classes_of t.new } }
 {
-    t.classes[t.class_count] = k;
-    t.class_count += 1;
+    // there is room
+    let _ = t.classes.push(k);
 }
 
 pub(crate) fn clear(t: &mut Tables)
     ensures empty { Empty t.new }
     ensures program { program_of t.new ≡ [] }
 {
-    t.class_count = 0;
-    t.field_count = 0;
-    t.method_count = 0;
-    t.param_count = 0;
-    t.instr_count = 0;
-    t.handler_count = 0;
+    t.classes.clear();
+    t.fields.clear();
+    t.methods.clear();
+    t.params.clear();
+    t.instrs.clear();
+    t.handlers.clear();
 }

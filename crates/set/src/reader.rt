@@ -21,13 +21,11 @@ fn fill(file: &[u8], t: &mut Tables) -> Result<(), TableFault>
     ensures filled { program_of t.new ≡ filled (parse file.now) }
     ensures whole { count_methods (program_of t.new) ≡ length (methods_of t.new) }
 {
-    match read_whole(file, t) {
-        Ok(()) => Ok(()),
-        Err(e) => {
-            clear(t);
-            Err(e)
-        }
+    let read = read_whole(file, t);
+    if read.is_err() {
+        clear(t);
     }
+    read
 }
 
 /// Reads the file into the set, whatever it held.

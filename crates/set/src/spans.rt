@@ -1,16 +1,16 @@
 // The lists of a class and a method: each stands behind its count, and becomes a span of a table.
 ghost use Rattle.std.specs.Prelude.{◌≡◌, ◌+◌, ◌≤◌, [], length, IfOk};
-ghost use Rattle.number.specs.Numbers.{Gave};
 ghost use Rattle.number.specs.Places.{file_of, place_of};
 ghost use Rattle.format.specs.Limits.{max_params, max_fields, all_classes, all_fields, all_params, max_instrs};
 ghost use Rattle.format.specs.Reading.{then, counted};
 ghost use Rattle.format.specs.Parse.{params_at, code_at, handlers_at, field_at};
 ghost use Rattle.tables.specs.Views.{fields_of, params_of, instrs_of, handlers_of};
 ghost use Rattle.set.specs.Counts.{more_at, code_count_at};
-ghost use Rattle.set.specs.Grown.{Grew, OnlyFields, OnlyParams, OnlyInstrs, OnlyHandlers};
+ghost use Rattle.set.specs.Grown.{Grew, lists_of};
+ghost use Rattle.set.specs.Taken.{Took};
 
-use crate::grow::{grow_fields, grow_handlers, grow_instrs, grow_params};
 use crate::items::at_most;
+use crate::table::grow;
 use format::fault::TableFault;
 use format::limits::{MAX_CODE, MAX_FIELDS, MAX_HANDLERS, MAX_INSTRS, MAX_PARAMS};
 use number::cursor::Cursor;
@@ -20,8 +20,7 @@ use tables::tables::Tables;
 // A number that is at most `most` together with `used`.
 pub(crate) fn read_more(c: &mut Cursor, used: usize, most: usize) -> Result<usize, TableFault>
     requires { used ≤ 65536 }
-    ensures file { file_of c.new ≡ file_of c.old }
-    ensures gave { Gave result (place_of c.new) (more_at (file_of c.old) used most (place_of c.old)) }
+    ensures took { Took result c.old c.new (λ file p. more_at file used most p) }
     ensures most { IfOk result (λ k. used + k ≤ most) }
 {
     let start = c.place();
@@ -35,8 +34,7 @@ pub(crate) fn read_more(c: &mut Cursor, used: usize, most: usize) -> Result<usiz
 // The length of a method's code, where the set has `used` instructions.
 fn read_code_count(c: &mut Cursor, used: usize) -> Result<usize, TableFault>
     requires { used ≤ max_instrs }
-    ensures file { file_of c.new ≡ file_of c.old }
-    ensures gave { Gave result (place_of c.new) (code_count_at (file_of c.old) used (place_of c.old)) }
+    ensures took { Took result c.old c.new (λ file p. code_count_at file used p) }
     ensures most { IfOk result (λ k. used + k ≤ max_instrs) }
 {
     let start = c.place();
@@ -58,32 +56,32 @@ pub(crate) fn read_params(c: &mut Cursor, n: u32, t: &mut Tables) -> Result<Span
     requires few { n ≤ all_classes }
     requires room { length (params_of t.old) + max_params ≤ all_params }
     ensures file { file_of c.new ≡ file_of c.old }
-    ensures rest { OnlyParams t.old t.new }
+    ensures rest { lists_of t.new ≡ record (lists_of t.old) { params = params_of t.new } }
     ensures most { IfOk result (λ s. s.count ≤ max_params) }
     ensures gave { Grew result (params_of t.old) (params_of t.new) (place_of c.new) (params_at (file_of c.old) n (place_of c.old)) }
 {
     let count = at_most(c, MAX_PARAMS as u32)?;
-    grow_params(c, n, count as usize, t)
+    grow(c, n, count as usize, &mut t.params)
 }
 
 // The code of a method.
 pub(crate) fn read_code(c: &mut Cursor, t: &mut Tables) -> Result<Span, TableFault>
     ensures file { file_of c.new ≡ file_of c.old }
-    ensures rest { OnlyInstrs t.old t.new }
+    ensures rest { lists_of t.new ≡ record (lists_of t.old) { instrs = instrs_of t.new } }
     ensures gave { Grew result (instrs_of t.old) (instrs_of t.new) (place_of c.new) (code_at (file_of c.old) (length (instrs_of t.old)) (place_of c.old)) }
 {
-    let count = read_code_count(c, t.instr_count)?;
-    grow_instrs(c, 0, count, t)
+    let count = read_code_count(c, t.instrs.len())?;
+    grow(c, 0, count, &mut t.instrs)
 }
 
 // The handlers of a method.
 pub(crate) fn read_handlers(c: &mut Cursor, t: &mut Tables) -> Result<Span, TableFault>
     ensures file { file_of c.new ≡ file_of c.old }
-    ensures rest { OnlyHandlers t.old t.new }
+    ensures rest { lists_of t.new ≡ record (lists_of t.old) { handlers = handlers_of t.new } }
     ensures gave { Grew result (handlers_of t.old) (handlers_of t.new) (place_of c.new) (handlers_at (file_of c.old) (length (handlers_of t.old)) (place_of c.old)) }
 {
-    let count = read_more(c, t.handler_count, MAX_HANDLERS)?;
-    grow_handlers(c, 0, count, t)
+    let count = read_more(c, t.handlers.len(), MAX_HANDLERS)?;
+    grow(c, 0, count, &mut t.handlers)
 }
 
 // The fields of a class beside the `inherited` ones.
@@ -97,10 +95,10 @@ pub(crate) fn read_fields(
     requires above { inherited ≤ 65536 }
     requires room { length (fields_of t.old) + max_fields ≤ all_fields }
     ensures file { file_of c.new ≡ file_of c.old }
-    ensures rest { OnlyFields t.old t.new }
+    ensures rest { lists_of t.new ≡ record (lists_of t.old) { fields = fields_of t.new } }
     ensures most { IfOk result (λ s. s.count ≤ max_fields) }
     ensures gave { Grew result (fields_of t.old) (fields_of t.new) (place_of c.new) (then (more_at (file_of c.old) inherited max_fields (place_of c.old)) (λ k q. counted (field_at (file_of c.old) n) k [] q)) }
 {
     let count = read_more(c, inherited, MAX_FIELDS)?;
-    grow_fields(c, n, count, t)
+    grow(c, n, count, &mut t.fields)
 }

@@ -1,40 +1,47 @@
 // Counted items, read one behind the other into a table.
-ghost use Rattle.std.specs.Prelude.{◌≡◌, ℕ, ◌+◌, ◌≤◌, List, [], length, take, drop};
-ghost use Rattle.number.specs.Numbers.{Gave};
+ghost use Rattle.std.specs.Prelude.{◌≡◌, ℕ, ◌+◌, ◌≤◌, List, [], length, take, IfOk};
 ghost use Rattle.number.specs.Places.{file_of, place_of};
-ghost use Rattle.format.specs.Reading.{Read, counted, Left};
+ghost use Rattle.filled.specs.Items.{items_of};
+ghost use Rattle.format.specs.Reading.{Read, counted};
 ghost use Rattle.format.specs.Limits.{all_classes};
+ghost use Rattle.set.specs.Grown.{Grew};
+ghost use Rattle.set.specs.Taken.{Took};
 
+use filled::filled::Filled;
 use format::fault::TableFault;
 use number::cursor::Cursor;
+use tables::records::Span;
 
 // What stands in a file behind a count, each item in the light of those before it, where there are `n` classes in all.
+// Cursor and `n` are handed on apart: a struct of both is no plainer, since each contract would say that `n` stays.
 pub(crate) trait Item: Copy {
     ghost at: { List ℕ → ℕ → List Self → ℕ → Read Self };
 
     fn read(c: &mut Cursor, n: u32, mine: &[Self]) -> Result<Self, TableFault>
         requires { n ≤ all_classes }
-        ensures file { file_of c.new ≡ file_of c.old }
-        ensures gave { Gave result (place_of c.new) (at (file_of c.old) n mine.now (place_of c.old)) };
+        ensures { Took result c.old c.new (λ file p. at file n mine.now p) };
 }
 
-// Reads `count` items into the table, from `first` on.
-pub(crate) fn read_items<T: Item>(
+// Reads `count` items behind those of the table.
+pub(crate) fn grow<T: Item, const N: usize>(
     c: &mut Cursor,
     n: u32,
     count: usize,
-    table: &mut [T],
-    first: usize,
-) -> Result<(), TableFault>
+    table: &mut Filled<T, N>,
+) -> Result<Span, TableFault>
     requires few { n ≤ all_classes }
-    requires room { first + count ≤ length table.old }
+    requires room { length (items_of table.old) + count ≤ N }
     ensures file { file_of c.new ≡ file_of c.old }
-    ensures front { take first table.new ≡ take first table.old }
-    ensures gave { Left result (take count (drop first table.new), place_of c.new) (counted (T.Item.at (file_of c.old) n) count [] (place_of c.old)) }
+    ensures front { take (length (items_of table.old)) (items_of table.new) ≡ items_of table.old }
+    ensures longer { length (items_of table.old) ≤ length (items_of table.new) }
+    ensures size { IfOk result (λ s. s.count ≡ count) }
+    ensures gave { Grew result (items_of table.old) (items_of table.new) (place_of c.new) (counted (T.Item.at (file_of c.old) n) count [] (place_of c.old)) }
 {
-    for i in 0..count {
-        let x = T::read(c, n, &table[first..first + i])?;
-        table[first + i] = x;
+    let first = table.len();
+    for _ in 0..count {
+        let item = T::read(c, n, &table.as_slice()[first..])?;
+        // there is room
+        let _ = table.push(item);
     }
-    Ok(())
+    Ok(Span { first, count })
 }

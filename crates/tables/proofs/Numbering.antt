@@ -1,5 +1,5 @@
 -- The methods of the classes stand one behind the other, so that a method's place is its number.
-use Rattle.std.proofs.Common.{◌≡◌, ℕ, zero, suc, ◌+◌, ◌-◌, ◌≤◌, true, eqb, List, [], ◌∷◌, map, length, take, Some, None, Option, refl, ap, ◌∙◌, arith}
+use Rattle.std.proofs.Common.{◌≡◌, ℕ, zero, suc, ◌+◌, ◌-◌, ◌≤◌, true, eqb, List, [], ◌∷◌, map, length, take, Some, None, Option, IfSome, refl, ap, ◌∙◌, arith}
 use Rattle.std.specs.List.{slice_get, AllByRecursion}
 use Rattle.std.proofs.lemmas.List.{length-map}
 use Rattle.std.proofs.lemmas.Bool.{and_parts, eqb-true}
@@ -7,23 +7,19 @@ use Rattle.jinja.specs.declared.program.Field.{Field}
 use Rattle.jinja.specs.Program.{MethodDecl, Program}
 use Rattle.jinja.specs.Classes.{table}
 use Rattle.jinja.specs.Lookups.{position, own_method, count_methods}
+use Rattle.jinja.proofs.Options.{all_nth}
 use Rattle.tables.specs.declared.records.ClassRec.{ClassRec}
 use Rattle.tables.specs.declared.records.MethodRec.{MethodRec}
 use Rattle.tables.specs.declared.tables.Tables.{Tables}
 use Rattle.tables.specs.Spans.{part, chained, MethodsWithin, FieldsWithin}
 use Rattle.tables.specs.Views.{classes_of, fields_of, methods_of, params_of, instrs_of, handlers_of, method_view, method_views, class_view, program_of}
 use Rattle.tables.specs.Records.{record_at}
-use Rattle.tables.proofs.Spans.{all_filled, length_part, part_in, part_map, length_methods}
+use Rattle.tables.proofs.Spans.{all_along, length_part, part_map}
 use Rattle.tables.proofs.Programs.{methods_at, record_nth}
 use Rattle.tables.proofs.Positions.{position_map, later}
 
 some_same : {A : Type 0} (x y : A) → ◌≡◌ {A = Option A} (Some x) (Some y) → x ≡ y
 some_same x y e = cc
-
-nth_all : {A : Type 0} (P : A → Type 0) (xs : List A) (i : ℕ) (x : A) → AllByRecursion P xs → slice_get xs i ≡ Some x → P x
-nth_all P [] i x h e = absurd (let z : ◌≡◌ {A = ℕ} 0 1 = cc in omega arith)
-nth_all P (y ∷ xs) zero x h e = let q : y ≡ x = some_same y x e in rw q at h.0
-nth_all P (y ∷ xs) (suc i) x h e = nth_all P xs i x h.1 e
 
 -- the methods of the classes before the i-th are as many as its first method's number says
 pub chained_first : (fs : List Field) (ms : List MethodDecl) (k : ℕ) (rs : List ClassRec) (i : ℕ) (r : ClassRec) → chained k rs ≡ true → AllByRecursion (MethodsWithin (length ms)) rs →
@@ -53,14 +49,23 @@ no_record : ClassRec
 no_record = record { superclass = 0; fields = record { first = 0; count = 0 }; methods = record { first = 0; count = 0 } }
 
 module _ (t : Tables) where
-  pub length_views : length (method_views t) ≡ t.method_count
-  length_views = length-map (methods_of t) (method_view (params_of t) (instrs_of t) (handlers_of t)) ∙ length_methods t
+  pub length_views : length (method_views t) ≡ length (methods_of t)
+  length_views = length-map (methods_of t) (method_view (params_of t) (instrs_of t) (handlers_of t))
 
-  pub methods_within : AllByRecursion (MethodsWithin t.method_count) (classes_of t)
-  methods_within = all_filled (MethodsWithin t.method_count) t.class_count t.classes no_record t.class_methods
+  pub methods_within : AllByRecursion (MethodsWithin (length (methods_of t))) (classes_of t)
+  methods_within = all_along (MethodsWithin (length (methods_of t))) (classes_of t) no_record t.class_methods
 
-  pub fields_within : AllByRecursion (FieldsWithin t.field_count) (classes_of t)
-  fields_within = all_filled (FieldsWithin t.field_count) t.class_count t.classes no_record t.class_fields
+  pub fields_within : AllByRecursion (FieldsWithin (length (fields_of t))) (classes_of t)
+  fields_within = all_along (FieldsWithin (length (fields_of t))) (classes_of t) no_record t.class_fields
+
+  -- the spans of a class's record lie within the tables
+  pub record_methods : (c : ℕ) (o : Option ClassRec) → record_at t c ≡ o → IfSome o (MethodsWithin (length (methods_of t)))
+  record_methods c None e = tt
+  record_methods c (Some r) e = all_nth (MethodsWithin (length (methods_of t))) (classes_of t) (c - 4) methods_within (record_nth t c r e).1
+
+  pub record_fields : (c : ℕ) (o : Option ClassRec) → record_at t c ≡ o → IfSome o (FieldsWithin (length (fields_of t)))
+  record_fields c None e = tt
+  record_fields c (Some r) e = all_nth (FieldsWithin (length (fields_of t))) (classes_of t) (c - 4) fields_within (record_nth t c r e).1
 
   -- the number of a class's first method is where its span begins
   pub first_method : (c : ℕ) (r : ClassRec) → record_at t c ≡ Some r → count_methods (take c (table (program_of t))) ≡ r.methods.first
@@ -77,19 +82,17 @@ module _ (t : Tables) where
 
   -- o is what a search through the class's methods finds
   pub own_method_at : (c m : ℕ) (r : ClassRec) (o : Option ℕ) → record_at t c ≡ Some r →
-      o ≡ position (λ (x : MethodRec). x.name) m (part r.methods t.methods) →
+      o ≡ position (λ (x : MethodRec). x.name) m (part r.methods (methods_of t)) →
       own_method (program_of t) c m ≡ later r.methods.first o
   unfolding own_method
   own_method_at c m r o e p =
       let n = record_nth t c r e in
-      let w = nth_all (MethodsWithin t.method_count) (classes_of t) (c - 4) r methods_within n.1 in
       let v = method_view (params_of t) (instrs_of t) (handlers_of t) in
       rw (
         methods_at t c,
         first_method c r e,
         e,
         part_map v r.methods (methods_of t),
-        part_in r.methods t.method_count t.methods w,
-        position_map (λ (x : MethodDecl). x.name) v m (part r.methods t.methods),
+        position_map (λ (x : MethodDecl). x.name) v m (part r.methods (methods_of t)),
         p,
       ) refl

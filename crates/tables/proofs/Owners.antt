@@ -13,7 +13,7 @@ use Rattle.tables.specs.declared.tables.Tables.{Tables}
 use Rattle.tables.specs.Spans.{part, chained, MethodsWithin}
 use Rattle.tables.specs.Views.{classes_of, fields_of, method_views, class_view, program_of}
 use Rattle.tables.specs.Methods.{method_of, Whole, owner_of, unowned}
-use Rattle.tables.proofs.Spans.{count_classes, length_part, length_methods}
+use Rattle.tables.proofs.Spans.{length_part}
 use Rattle.tables.proofs.Programs.{nth_map, length_program}
 use Rattle.tables.proofs.Numbering.{chained_first, length_views, methods_within}
 use Rattle.tables.proofs.Rows.{nth_append_left, nth_append_right}
@@ -53,7 +53,7 @@ module _ (t : Tables) where
   unfolding method_at program_of
   methods_numbered k whole =
       let j = chained_joined (fields_of t) (method_views t) 0 (classes_of t) t.numbered within_views in
-      let l : length (method_views t) ≤ count_methods (program_of t) = omega (arith, whole, length_views t, length_methods t) in
+      let l : length (method_views t) ≤ count_methods (program_of t) = omega (arith, whole, length_views t) in
       sym (nth_map (λ (o : Owned). o.method) (methods_from 0 (table (program_of t))) k)
       ∙ ap (λ ms. slice_get ms k) (methods_joined 0 (table (program_of t)) ∙ j ∙ take_all (count_methods (program_of t)) (method_views t) l)
 
@@ -68,43 +68,43 @@ owner_map c (m ∷ ms) (suc j) h = owner_map c ms j (omega arith)
 
 -- a turn of the search through the classes for the one that declares method k
 module _ (t : Tables) (i k : ℕ) where
-  pub no_owner : t.class_count ≤ i → slice_get (methods_from (4 + i) (drop i (program_of t))) (k - count_methods (take i (program_of t))) ≡ None
+  pub no_owner : length (classes_of t) ≤ i → slice_get (methods_from (4 + i) (drop i (program_of t))) (k - count_methods (take i (program_of t))) ≡ None
   no_owner h = rw (drop_all i (program_of t) (omega (arith, length_program t))) refl
 
-  module _ (d : ClassRec) (h : i < t.class_count) where
-    class_here : get_or (program_of t) i (class_view (fields_of t) (method_views t) d) ≡ class_view (fields_of t) (method_views t) (get_or t.classes i d)
+  module _ (d : ClassRec) (h : i < length (classes_of t)) where
+    class_here : get_or (program_of t) i (class_view (fields_of t) (method_views t) d) ≡ class_view (fields_of t) (method_views t) (get_or (classes_of t) i d)
     unfolding program_of
     class_here =
         let view = class_view (fields_of t) (method_views t) in
-        get_or-map view (classes_of t) i d (view d) (omega (arith, count_classes t)) ∙ ap view (get_or-take t.class_count t.classes i d h)
+        get_or-map view (classes_of t) i d (view d) h
 
-    rest : drop i (program_of t) ≡ class_view (fields_of t) (method_views t) (get_or t.classes i d) ∷ drop (i + 1) (program_of t)
+    rest : drop i (program_of t) ≡ class_view (fields_of t) (method_views t) (get_or (classes_of t) i d) ∷ drop (i + 1) (program_of t)
     rest =
         drop_more (program_of t) i (class_view (fields_of t) (method_views t) d) (omega (arith, length_program t))
         ∙ ap (λ x. x ∷ drop (i + 1) (program_of t)) class_here
 
-    own_length : length (part (get_or t.classes i d).methods (method_views t)) ≡ (get_or t.classes i d).methods.count
+    own_length : length (part (get_or (classes_of t) i d).methods (method_views t)) ≡ (get_or (classes_of t) i d).methods.count
     own_length =
-        length_part (get_or t.classes i d).methods (method_views t) (omega (arith, length_views t, t.class_methods i d (omega arith) h))
+        length_part (get_or (classes_of t) i d).methods (method_views t) (omega (arith, length_views t, t.class_methods i d h))
 
     -- the number of its first method
-    first_here : count_methods (take i (program_of t)) ≡ (get_or t.classes i d).methods.first
+    first_here : count_methods (take i (program_of t)) ≡ (get_or (classes_of t) i d).methods.first
     unfolding program_of
     first_here =
-        let e : slice_get (classes_of t) i ≡ Some (get_or t.classes i d) =
-        slice_get-get_or (classes_of t) i d (omega (arith, count_classes t)) ∙ ap Some (get_or-take t.class_count t.classes i d h) in
-        omega (arith, chained_first (fields_of t) (method_views t) 0 (classes_of t) i (get_or t.classes i d) t.numbered (within_views t) e)
+        let e : slice_get (classes_of t) i ≡ Some (get_or (classes_of t) i d) =
+        slice_get-get_or (classes_of t) i d h in
+        omega (arith, chained_first (fields_of t) (method_views t) 0 (classes_of t) i (get_or (classes_of t) i d) t.numbered (within_views t) e)
 
-    count_more : count_methods (take (i + 1) (program_of t)) ≡ (get_or t.classes i d).methods.first + (get_or t.classes i d).methods.count
+    count_more : count_methods (take (i + 1) (program_of t)) ≡ (get_or (classes_of t) i d).methods.first + (get_or (classes_of t) i d).methods.count
     count_more =
         let e = take_more (program_of t) i (class_view (fields_of t) (method_views t) d) (omega (arith, length_program t)) in
-        let n = count_push (take i (program_of t)) (class_view (fields_of t) (method_views t) (get_or t.classes i d)) in
+        let n = count_push (take i (program_of t)) (class_view (fields_of t) (method_views t) (get_or (classes_of t) i d)) in
         rw (e, class_here) (omega (arith, n, own_length, first_here))
 
-    pub owner_here : count_methods (take i (program_of t)) ≤ k → k < (get_or t.classes i d).methods.first + (get_or t.classes i d).methods.count →
+    pub owner_here : count_methods (take i (program_of t)) ≤ k → k < (get_or (classes_of t) i d).methods.first + (get_or (classes_of t) i d).methods.count →
         owner_of (slice_get (methods_from (4 + i) (drop i (program_of t))) (k - count_methods (take i (program_of t)))) ≡ Some (4 + i)
     owner_here l g =
-        let ms = part (get_or t.classes i d).methods (method_views t) in
+        let ms = part (get_or (classes_of t) i d).methods (method_views t) in
         let owned = owned_by (4 + i) ms in
         let j = k - count_methods (take i (program_of t)) in
         let in_own : j < length ms = omega (arith, own_length, first_here) in
@@ -113,18 +113,18 @@ module _ (t : Tables) (i k : ℕ) where
         ∙ ap owner_of (nth_append_left owned (methods_from (suc (4 + i)) (drop (i + 1) (program_of t))) j in_owned)
         ∙ owner_map (4 + i) ms j in_own
 
-    pub none_before : (get_or t.classes i d).methods.first + (get_or t.classes i d).methods.count ≤ k → count_methods (take (i + 1) (program_of t)) ≤ k
+    pub none_before : (get_or (classes_of t) i d).methods.first + (get_or (classes_of t) i d).methods.count ≤ k → count_methods (take (i + 1) (program_of t)) ≤ k
     none_before g = omega (arith, count_more)
 
-    pub owner_later : (get_or t.classes i d).methods.first + (get_or t.classes i d).methods.count ≤ k →
+    pub owner_later : (get_or (classes_of t) i d).methods.first + (get_or (classes_of t) i d).methods.count ≤ k →
         slice_get (methods_from (4 + i) (drop i (program_of t))) (k - count_methods (take i (program_of t)))
         ≡ slice_get (methods_from (4 + (i + 1)) (drop (i + 1) (program_of t))) (k - count_methods (take (i + 1) (program_of t)))
     owner_later g =
-        let ms = part (get_or t.classes i d).methods (method_views t) in
+        let ms = part (get_or (classes_of t) i d).methods (method_views t) in
         let owned = owned_by (4 + i) ms in
         let others = drop (i + 1) (program_of t) in
         let j = k - count_methods (take i (program_of t)) in
-        let n : length owned ≡ (get_or t.classes i d).methods.count = length_owned (4 + i) ms ∙ own_length in
+        let n : length owned ≡ (get_or (classes_of t) i d).methods.count = length_owned (4 + i) ms ∙ own_length in
         let past : length owned ≤ j = omega (arith, first_here) in
         let c : suc (4 + i) ≡ 4 + (i + 1) = omega arith in
         let at : j - length owned ≡ k - count_methods (take (i + 1) (program_of t)) = omega (arith, first_here, count_more) in

@@ -12,7 +12,6 @@ use Rattle.tables.specs.declared.tables.Tables.{Tables}
 use Rattle.tables.specs.Spans.{part}
 use Rattle.tables.specs.Views.{classes_of, fields_of, method_views, class_view, program_of}
 use Rattle.tables.specs.Records.{record_at}
-use Rattle.tables.proofs.Spans.{count_classes}
 
 pub nth_map : {A B : Type 0} (f : A → B) (xs : List A) (i : ℕ) → slice_get (map f xs) i ≡ maybe (slice_get xs i) None (λ x. Some (f x))
 nth_map f [] i = refl
@@ -39,9 +38,9 @@ nth_own P (suc (suc (suc zero))) h = absurd (omega arith)
 nth_own P (suc (suc (suc (suc c)))) h = let e : c ≡ suc (suc (suc (suc c))) - 4 = omega arith in ap (slice_get P) e
 
 module _ (t : Tables) where
-  pub length_program : length (program_of t) ≡ t.class_count
+  pub length_program : length (program_of t) ≡ length (classes_of t)
   unfolding program_of
-  length_program = length-map (classes_of t) (class_view (fields_of t) (method_views t)) ∙ count_classes t
+  length_program = length-map (classes_of t) (class_view (fields_of t) (method_views t))
 
   pub nth_program : (i : ℕ) → slice_get (program_of t) i ≡ maybe (slice_get (classes_of t) i) None (λ r. Some (class_view (fields_of t) (method_views t) r))
   unfolding program_of
@@ -68,12 +67,8 @@ module _ (t : Tables) where
   pub record_built_in : (c : ℕ) → c < 4 → record_at t c ≡ None
   record_built_in c h = rw (lt-ltb c 4 h) refl
 
-  pub record_past : (c : ℕ) → 4 ≤ c → t.class_count ≤ c - 4 → record_at t c ≡ None
-  record_past c h l = rw (le-ltb c 4 h) (slice_get_past (classes_of t) (c - 4) (omega (arith, count_classes t)))
-
-  pub record_own : (c : ℕ) (d : ClassRec) → 4 ≤ c → c - 4 < t.class_count → record_at t c ≡ Some (get_or t.classes (c - 4) d)
-  record_own c d h l =
-      rw (le-ltb c 4 h) (slice_get-get_or (classes_of t) (c - 4) d (omega (arith, count_classes t)) ∙ ap Some (get_or-take t.class_count t.classes (c - 4) d l))
+  pub record_own : (c : ℕ) → 4 ≤ c → record_at t c ≡ slice_get (classes_of t) (c - 4)
+  record_own c h = rw (le-ltb c 4 h) refl
 
   -- only own classes have a record
   pub record_nth : (c : ℕ) (r : ClassRec) → record_at t c ≡ Some r → (4 ≤ c) × (slice_get (classes_of t) (c - 4) ≡ Some r)

@@ -11,10 +11,9 @@ use Rattle.jinja.specs.Lookups.{position, own_fields, own_field, fields_within}
 use Rattle.jinja.specs.Lookups as jinja
 use Rattle.tables.specs.declared.records.ClassRec.{ClassRec}
 use Rattle.tables.specs.declared.tables.Tables.{Tables}
-use Rattle.tables.specs.Spans.{part, FieldsWithin}
-use Rattle.tables.specs.Views.{program_of}
+use Rattle.tables.specs.Spans.{part}
+use Rattle.tables.specs.Views.{fields_of, program_of}
 use Rattle.tables.specs.Records.{record_at}
-use Rattle.tables.proofs.Spans.{part_in}
 use Rattle.tables.proofs.Programs.{fields_at}
 use Rattle.tables.proofs.Climbs.{row_last, row_on}
 
@@ -22,9 +21,8 @@ module _ (t : Tables) (c : ℕ) where
   pub no_own_fields : record_at t c ≡ None → own_fields (program_of t) c ≡ []
   no_own_fields e = rw (fields_at t c, e) refl
 
-  pub own_fields_at : (r : ClassRec) → record_at t c ≡ Some r → FieldsWithin t.field_count r →
-      own_fields (program_of t) c ≡ part r.fields t.fields
-  own_fields_at r e w = rw (fields_at t c, e) (part_in r.fields t.field_count t.fields w)
+  pub own_fields_at : (r : ClassRec) → record_at t c ≡ Some r → own_fields (program_of t) c ≡ part r.fields (fields_of t)
+  own_fields_at r e = rw (fields_at t c, e) refl
 
 pub nth_append_left : {A : Type 0} (xs ys : List A) (i : ℕ) → i < length xs → slice_get (xs ++ ys) i ≡ slice_get xs i
 nth_append_left [] ys i h = absurd (omega arith)

@@ -34,9 +34,9 @@ pub record Lies {A : Type 0} (s : Span) (xs ys : List A) : Type 0 where
 -- m is the record of the method k
 pub record Stands (t : Tables) (k : ℕ) (m : MethodRec) : Type 0 where
   pub method : method_of t k ≡ Some (method_view (params_of t) (instrs_of t) (handlers_of t) m)
-  pub params : Lies m.params t.params (params_in t k)
-  pub code : Lies m.code t.instrs (code_in t k)
-  pub handlers : Lies m.handlers t.handlers (handlers_in t k)
+  pub params : Lies m.params (params_of t) (params_in t k)
+  pub code : Lies m.code (instrs_of t) (code_in t k)
+  pub handlers : Lies m.handlers (handlers_of t) (handlers_in t k)
 
 -- there is no method k
 pub record Lacks (t : Tables) (k : ℕ) : Type 0 where

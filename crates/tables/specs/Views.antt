@@ -1,5 +1,6 @@
 -- The program that tables stand for.
-use Rattle.std.specs.Prelude.{List, map, take}
+use Rattle.std.specs.Prelude.{List, map}
+use Rattle.filled.specs.Items.{items_of}
 use Rattle.jinja.specs.declared.ty.Ty.{Ty}
 use Rattle.jinja.specs.declared.instr.Instr.{Instr}
 use Rattle.jinja.specs.declared.program.Field.{Field}
@@ -10,24 +11,24 @@ use Rattle.tables.specs.declared.records.MethodRec.{MethodRec}
 use Rattle.tables.specs.declared.tables.Tables.{Tables}
 use Rattle.tables.specs.Spans.{part}
 
--- the filled part of each table
+-- what each table holds
 abbrev pub classes_of : Tables → List ClassRec
-classes_of t = take t.class_count t.classes
+classes_of t = items_of t.classes
 
 abbrev pub fields_of : Tables → List Field
-fields_of t = take t.field_count t.fields
+fields_of t = items_of t.fields
 
 abbrev pub methods_of : Tables → List MethodRec
-methods_of t = take t.method_count t.methods
+methods_of t = items_of t.methods
 
 abbrev pub params_of : Tables → List Ty
-params_of t = take t.param_count t.params
+params_of t = items_of t.params
 
 abbrev pub instrs_of : Tables → List Instr
-instrs_of t = take t.instr_count t.instrs
+instrs_of t = items_of t.instrs
 
 abbrev pub handlers_of : Tables → List Handler
-handlers_of t = take t.handler_count t.handlers
+handlers_of t = items_of t.handlers
 
 -- the method of a record whose types, code and handlers lie in ts, is and hs
 abbrev pub method_view : List Ty → List Instr → List Handler → MethodRec → MethodDecl

@@ -1,18 +1,13 @@
 // Classes by their numbers: which there are, what they extend, and which lie below which.
 ghost use Rattle.std.specs.Prelude.{◌≡◌, ◌&&◌, length, IfSome};
 ghost use Rattle.jinja.specs.Classes.{maybe, table, is_class, superclass_of, climbs, at_or_below};
-ghost use Rattle.tables.specs.Views.{program_of};
+ghost use Rattle.tables.specs.Views.{fields_of, methods_of, program_of};
 ghost use Rattle.tables.specs.Records.{record_at};
 ghost use Rattle.tables.specs.Spans.{FieldsWithin, MethodsWithin};
 
 use crate::records::ClassRec;
 use crate::tables::Tables;
-use jinja::program::ClassNumber;
-
-/// The top of all classes, that lies under itself.
-pub const OBJECT: ClassNumber = 0;
-/// How many classes are built in: Object, NullPointer, ClassCast and OutOfMemory.
-pub const BUILT_IN: usize = 4;
+use jinja::program::{BUILT_IN, ClassNumber, OBJECT};
 
 impl Tables {
     /// Whether the number is that of a class, built in or own.
@@ -45,10 +40,11 @@ impl Tables {
         ensures all { at_or_below (program_of self.now) c d ≡ (is_class (program_of self.now) c && climbs (program_of self.now) c c d) }
     {
         let mut at = c;
-        let mut left = steps;
-        while at != d && at != OBJECT && left > 0 {
+        for _ in 0..steps {
+            if at == d || at == OBJECT {
+                return at == d;
+            }
             at = self.superclass(at);
-            left -= 1;
         }
         at == d
     }
@@ -57,25 +53,17 @@ impl Tables {
     fn count_all(&self) -> usize
         ensures { result ≡ length (table (program_of self.now)) }
     {
-        BUILT_IN + self.class_count
+        BUILT_IN + self.classes.len()
     }
 
     // The record of an own class.
     pub(crate) fn class(&self, c: ClassNumber) -> Option<ClassRec>
         ensures record { result ≡ record_at self.now c }
         ensures superclass { superclass_of (program_of self.now) c ≡ maybe result 0 (λ d. d.superclass) }
-        ensures methods { IfSome result (MethodsWithin self.now.method_count) }
-        ensures fields { IfSome result (FieldsWithin self.now.field_count) }
+        ensures methods { IfSome result (MethodsWithin (length (methods_of self.now))) }
+        ensures fields { IfSome result (FieldsWithin (length (fields_of self.now))) }
     {
-        let c = c as usize;
-        if c < BUILT_IN {
-            return None;
-        }
-        let i = c - BUILT_IN;
-        if i < self.class_count {
-            Some(self.classes[i])
-        } else {
-            None
-        }
+        let i = (c as usize).checked_sub(BUILT_IN)?;
+        self.classes.get(i)
     }
 }

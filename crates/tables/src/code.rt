@@ -1,19 +1,17 @@
 // What a method has: its record by its number, its parameter types, code and handlers, and the class that declares it.
-ghost use Rattle.std.specs.Prelude.{◌≡◌, ℕ, ◌+◌, ◌<◌, length, IfSome, Some, None, MatchOption};
+ghost use Rattle.std.specs.Prelude.{◌≡◌, ℕ, ◌+◌, ◌<◌, IfSome, Some, None, MatchOption};
 ghost use Rattle.std.specs.List.{slice_get};
 ghost use Rattle.jinja.specs.Classes.{maybe};
 ghost use Rattle.jinja.specs.Lookups.{method_at};
-ghost use Rattle.tables.specs.Views.{methods_of, program_of};
-ghost use Rattle.tables.specs.Spans.{part, Within};
+ghost use Rattle.tables.specs.Views.{methods_of, params_of, instrs_of, program_of};
+ghost use Rattle.tables.specs.Spans.{part};
 ghost use Rattle.tables.specs.Methods.{method_of, params_in, code_in, handlers_in, Stands, Lacks, Whole, owner_of, unowned};
 ghost use Rattle.format.specs.Limits.{max_classes};
 
-use crate::classes::BUILT_IN;
-use crate::parts::{item_at, part_of};
 use crate::records::MethodRec;
 use crate::tables::Tables;
 use jinja::instr::Instr;
-use jinja::program::{ClassNumber, Handler};
+use jinja::program::{BUILT_IN, ClassNumber, Handler};
 use jinja::ty::Ty;
 
 impl Tables {
@@ -23,21 +21,15 @@ impl Tables {
         ensures spans { MatchOption result (Lacks self.now k) (Stands self.now k) }
         ensures numbered { Whole self.now → unowned (method_at (program_of self.now) k) ≡ method_of self.now k }
     {
-        if k < self.method_count {
-            Some(self.record(k))
-        } else {
-            None
-        }
+        self.methods.get(k)
     }
 
     /// The class that declares the method of number `k`.
     pub fn owner(&self, k: usize) -> Option<ClassNumber>
         ensures { result ≡ owner_of (method_at (program_of self.now) k) }
     {
-        match self.owning_record(k) {
-            Some(i) => Some((BUILT_IN + i) as ClassNumber),
-            None => None,
-        }
+        let i = self.owning_record(k)?;
+        Some((BUILT_IN + i) as ClassNumber)
     }
 
     /// The types of the parameters of method `k`; none where there is no such method.
@@ -46,24 +38,22 @@ impl Tables {
     {
         match self.method(k) {
             Some(method) => self.params_from(method),
-            None => &self.params[0..0],
+            None => &[],
         }
     }
 
     /// The types of the parameters of a method, by its record.
     pub fn params_from(&self, method: MethodRec) -> &[Ty]
-        requires { Within (length self.now.params) method.params }
-        ensures { result.now ≡ part method.params self.now.params }
+        ensures { result.now ≡ part method.params (params_of self.now) }
     {
-        part_of(&self.params, method.params)
+        method.params.of(self.params.as_slice())
     }
 
     /// The code of a method, by its record.
     pub fn code_from(&self, method: MethodRec) -> &[Instr]
-        requires { Within (length self.now.instrs) method.code }
-        ensures { result.now ≡ part method.code self.now.instrs }
+        ensures { result.now ≡ part method.code (instrs_of self.now) }
     {
-        part_of(&self.instrs, method.code)
+        method.code.of(self.instrs.as_slice())
     }
 
     /// The code of method `k`; none where there is no such method.
@@ -72,7 +62,7 @@ impl Tables {
     {
         match self.method(k) {
             Some(method) => self.code_from(method),
-            None => &self.instrs[0..0],
+            None => &[],
         }
     }
 
@@ -81,8 +71,8 @@ impl Tables {
         ensures { result.now ≡ handlers_in self.now k }
     {
         match self.method(k) {
-            Some(method) => part_of(&self.handlers, method.handlers),
-            None => &self.handlers[0..0],
+            Some(method) => method.handlers.of(self.handlers.as_slice()),
+            None => &[],
         }
     }
 
@@ -90,17 +80,7 @@ impl Tables {
     pub fn instr(&self, k: usize, pc: usize) -> Option<Instr>
         ensures { result ≡ slice_get (code_in self.now k) pc }
     {
-        item_at(self.code_of(k), pc)
-    }
-
-    // The record at `k`.
-    fn record(&self, k: usize) -> MethodRec
-        requires { k < self.now.method_count }
-        ensures record { Some result ≡ slice_get (methods_of self.now) k }
-        ensures spans { Stands self.now k result }
-        ensures numbered { Whole self.now → unowned (method_at (program_of self.now) k) ≡ method_of self.now k }
-    {
-        self.methods[k]
+        self.code_of(k).get(pc).copied()
     }
 
     // Where the record of the class that declares method `k` stands.
@@ -108,9 +88,8 @@ impl Tables {
         ensures owner { owner_of (method_at (program_of self.now) k) ≡ maybe result None (λ i. Some (4 + i)) }
         ensures few { IfSome result (λ i. i < max_classes) }
     {
-        for i in 0..self.class_count {
-            let methods = self.classes[i].methods;
-            if k < methods.first + methods.count {
+        for (i, class) in self.classes.as_slice().iter().enumerate() {
+            if k < class.methods.first + class.methods.count {
                 return Some(i);
             }
         }

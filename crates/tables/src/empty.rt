@@ -3,8 +3,8 @@ ghost use Rattle.std.specs.Prelude.{◌≡◌, []};
 ghost use Rattle.tables.specs.Views.{classes_of, fields_of, methods_of, params_of, instrs_of, handlers_of, program_of};
 
 use crate::records::{ClassRec, MethodRec, Span};
-use crate::tables::{ALL_FIELDS, ALL_PARAMS, Tables};
-use format::limits::{MAX_CLASSES, MAX_HANDLERS, MAX_INSTRS, MAX_METHODS};
+use crate::tables::Tables;
+use filled::filled::Filled;
 use jinja::instr::Instr;
 use jinja::program::{Field, Handler};
 use jinja::ty::Ty;
@@ -26,6 +26,10 @@ impl Tables {
             fields: none,
             methods: none,
         };
+        let field = Field {
+            name: 0,
+            ty: Ty::Void,
+        };
         let method = MethodRec {
             name: 0,
             params: none,
@@ -43,21 +47,12 @@ impl Tables {
             depth: 0,
         };
         Tables {
-            classes: [class; MAX_CLASSES],
-            class_count: 0,
-            fields: [Field {
-                name: 0,
-                ty: Ty::Void,
-            }; ALL_FIELDS],
-            field_count: 0,
-            methods: [method; MAX_METHODS],
-            method_count: 0,
-            params: [Ty::Void; ALL_PARAMS],
-            param_count: 0,
-            instrs: [Instr::Return; MAX_INSTRS],
-            instr_count: 0,
-            handlers: [handler; MAX_HANDLERS],
-            handler_count: 0,
+            classes: Filled::new(class),
+            fields: Filled::new(field),
+            methods: Filled::new(method),
+            params: Filled::new(Ty::Void),
+            instrs: Filled::new(Instr::Return),
+            handlers: Filled::new(handler),
         }
     }
 }

@@ -2,15 +2,14 @@
 ghost use Rattle.std.specs.Prelude.{◌≡◌, ◌+◌, ◌<◌, ◌≤◌, length, IfSome, Some, None};
 ghost use Rattle.std.specs.List.{slice_get};
 ghost use Rattle.jinja.specs.Classes.{maybe, superclass_of};
-ghost use Rattle.jinja.specs.Lookups.{position, own_fields, own_field, fields_within, fields_of};
+ghost use Rattle.jinja.specs.Lookups.{own_fields, own_field, fields_within, fields_of};
 ghost use Rattle.tables.specs.Records.{longest_row};
 ghost use Rattle.tables.specs.Views.{program_of};
 ghost use Rattle.format.specs.Limits.{all_fields};
 
-use crate::classes::OBJECT;
-use crate::parts::part_of;
+use crate::names::position_of;
 use crate::tables::Tables;
-use jinja::program::{ClassNumber, Field, FieldPlace, Name};
+use jinja::program::{ClassNumber, Field, FieldPlace, Name, OBJECT};
 use jinja::ty::Ty;
 
 impl Tables {
@@ -38,10 +37,7 @@ impl Tables {
     pub fn field_type(&self, c: ClassNumber, i: usize) -> Option<Ty>
         ensures { result ≡ maybe (slice_get (fields_of (program_of self.now) c) i) None (λ x. Some x.ty) }
     {
-        match self.field_at(c, i) {
-            Some(field) => Some(field.ty),
-            None => None,
-        }
+        self.field_at(c, i).map(|field| field.ty)
     }
 
     // The `i`-th field of an object of class `c`.
@@ -53,17 +49,16 @@ impl Tables {
             return None;
         }
         let mut at = c;
-        let mut left = c;
-        loop {
+        for _ in 0..=c {
             let own = self.own_fields(at);
             let start = end - own.len();
             if i >= start {
                 return Some(own[i - start]);
             }
             at = self.superclass(at);
-            left -= 1;
             end = start;
         }
+        None
     }
 
     // The place among its own fields, and the type, of the field of that name that `c` declares.
@@ -72,7 +67,7 @@ impl Tables {
         ensures few { IfSome result (λ p. p.0 < all_fields) }
     {
         let own = self.own_fields(c);
-        let i = position_of_field(own, name)?;
+        let i = position_of(own, name)?;
         Some((i, own[i].ty))
     }
 
@@ -82,17 +77,16 @@ impl Tables {
         ensures all { steps ≡ c → result ≡ length (fields_of (program_of self.now) c) }
         ensures few { result ≤ longest_row }
     {
-        let mut len = 0;
+        let mut len = self.own_fields(c).len();
         let mut at = c;
-        let mut left = steps;
-        loop {
-            len += self.own_fields(at).len();
-            if at == OBJECT || left == 0 {
+        for _ in 0..steps {
+            if at == OBJECT {
                 return len;
             }
             at = self.superclass(at);
-            left -= 1;
+            len += self.own_fields(at).len();
         }
+        len
     }
 
     /// The fields that `c` itself declares.
@@ -101,21 +95,8 @@ impl Tables {
         ensures few { length result.now ≤ all_fields }
     {
         match self.class(c) {
-            Some(class) => part_of(&self.fields, class.fields),
-            None => &self.fields[0..0],
+            Some(class) => class.fields.of(self.fields.as_slice()),
+            None => &[],
         }
     }
-}
-
-// Where the first field of that name stands.
-fn position_of_field(fields: &[Field], name: Name) -> Option<usize>
-    ensures place { result ≡ position (λ (x : Field). x.name) name fields.now }
-    ensures within { IfSome result (λ i. i < length fields.now) }
-{
-    for (i, field) in fields.iter().enumerate() {
-        if field.name == name {
-            return Some(i);
-        }
-    }
-    None
 }

@@ -6,7 +6,7 @@ mod code;
 mod empty;
 mod fields;
 mod methods;
-mod parts;
+pub mod names;
 pub mod records;
 pub mod tables;
 mod types;

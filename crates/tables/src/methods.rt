@@ -1,13 +1,11 @@
 // Methods: the one that a class sees, and what a method has.
-ghost use Rattle.std.specs.Prelude.{◌≡◌, ◌<◌, length, IfSome};
-ghost use Rattle.jinja.specs.Lookups.{position, own_method, sees_within, sees};
+ghost use Rattle.std.specs.Prelude.{◌≡◌};
+ghost use Rattle.jinja.specs.Lookups.{own_method, sees_within, sees};
 ghost use Rattle.tables.specs.Views.{program_of};
 
-use crate::classes::OBJECT;
-use crate::parts::part_of;
-use crate::records::MethodRec;
+use crate::names::position_of;
 use crate::tables::Tables;
-use jinja::program::{ClassNumber, Name};
+use jinja::program::{ClassNumber, Name, OBJECT};
 
 impl Tables {
     /// The number of the method of that name that is declared nearest upward from `c`.
@@ -23,15 +21,14 @@ impl Tables {
         ensures all { steps ≡ c → result ≡ sees (program_of self.now) c name }
     {
         let mut at = c;
-        let mut left = steps;
-        loop {
+        for _ in 0..steps {
             let own = self.own_method(at, name);
-            if own.is_some() || at == OBJECT || left == 0 {
+            if own.is_some() || at == OBJECT {
                 return own;
             }
             at = self.superclass(at);
-            left -= 1;
         }
+        self.own_method(at, name)
     }
 
     // The method of that name that `c` itself declares.
@@ -39,21 +36,8 @@ impl Tables {
         ensures { result ≡ own_method (program_of self.now) c name }
     {
         let class = self.class(c)?;
-        let own = part_of(&self.methods, class.methods);
-        let i = position_of_method(own, name)?;
+        let own = class.methods.of(self.methods.as_slice());
+        let i = position_of(own, name)?;
         Some(class.methods.first + i)
     }
-}
-
-// Where the first method of that name stands.
-fn position_of_method(methods: &[MethodRec], name: Name) -> Option<usize>
-    ensures place { result ≡ position (λ (x : MethodRec). x.name) name methods.now }
-    ensures within { IfSome result (λ i. i < length methods.now) }
-{
-    for (i, method) in methods.iter().enumerate() {
-        if method.name == name {
-            return Some(i);
-        }
-    }
-    None
 }

@@ -1,12 +1,27 @@
-// The records of a set's tables. Lists of a class or a method are spans of flat arrays.
+// The records of a set's tables. Lists of a class or a method are spans of flat tables.
+ghost use Rattle.std.specs.Prelude.{◌≡◌, ◌≤◌, length};
+ghost use Rattle.tables.specs.Spans.{part};
+
 use jinja::program::{ClassNumber, Name};
 use jinja::ty::Ty;
 
-/// `count` items of a flat array, from `first` on.
+/// `count` items of a flat table, from `first` on.
 #[derive(Clone, Copy)]
 pub struct Span {
     pub first: usize,
     pub count: usize,
+}
+
+impl Span {
+    /// Those of the items that lie in the span.
+    pub fn of<T>(self, items: &[T]) -> &[T]
+        ensures items { result.now ≡ part self items.now }
+        ensures few { length result.now ≤ length items.now }
+    {
+        let first = self.first.min(items.len());
+        let end = first + self.count.min(items.len() - first);
+        &items[first..end]
+    }
 }
 
 /// A class: its superclass, and the spans of the fields and methods that it declares.

@@ -8,6 +8,7 @@ use Rattle.jinja.specs.Lookups.{Owned}
 use Rattle.jinja.specs.Rows.{registers}
 use Rattle.jinja.specs.WellFormed.{WellFormed}
 use Rattle.format.proofs.WellFormed.{kept_is_well_formed}
+use Rattle.tables.proofs.Spans.{few_classes}
 use Rattle.tables.proofs.Programs.{length_program}
 use Rattle.type_rows.specs.declared.method.Method.{Method}
 use Rattle.type_rows.specs.Joining.{join_numbers, has_absent, SameNumbers}
@@ -103,7 +104,7 @@ in_place m xs ys js ks x y r same p q sj sk ej ek =
     let b = length-drop 17 (put_mid 1 h xs js) in
     record {
       well_formed = kept_is_well_formed (program m) m.kept;
-      few = omega (arith, length_program t, t.few_classes);
+      few = omega (arith, length_program t, few_classes t);
       wide = z ∙ m.wide;
       narrow = omega arith;
       row = x;

@@ -12,7 +12,7 @@ use Rattle.format.proofs.Kept.{code_fits, kept_method_at}
 use Rattle.format.proofs.Found.{method_of_class}
 use Rattle.tables.specs.declared.records.MethodRec.{MethodRec}
 use Rattle.tables.specs.declared.tables.Tables.{Tables}
-use Rattle.tables.specs.Views.{params_of, instrs_of, handlers_of, method_view, program_of}
+use Rattle.tables.specs.Views.{methods_of, params_of, instrs_of, handlers_of, method_view, program_of}
 use Rattle.tables.specs.Methods.{Stands, Whole, unowned}
 use Rattle.tables.proofs.Owners.{methods_numbered}
 use Rattle.tables.proofs.Spans.{length_part}
@@ -55,10 +55,10 @@ module _ (t : Tables) (k : ℕ) (r : MethodRec) (whole : Whole t) (s : Stands t 
   pub record_at : method_at (program_of t) k ≡ Some (the_method (program_of t) k)
   record_at = (owned_as (method_at (program_of t) k) _ (methods_numbered t k whole ∙ s.method)).0
 
-  pub record_there : k < t.method_count
-  record_there = ⊎_elim (λ (l : k < t.method_count). l) (λ (l : t.method_count ≤ k). absurd (conflict (sym (method_lacks t k l).method ∙ s.method))) (cases_lt k t.method_count)
+  pub record_there : k < length (methods_of t)
+  record_there = ⊎_elim (λ (l : k < length (methods_of t)). l) (λ (l : length (methods_of t) ≤ k). absurd (conflict (sym (method_lacks t k l).method ∙ s.method))) (cases_lt k (length (methods_of t)))
 
   pub record_params : r.params.count ≡ length (the_method (program_of t) k).method.params
   record_params =
-      sym (length_part r.params t.params s.params.within) ∙ ap length s.params.items
+      sym (length_part r.params (params_of t) s.params.within) ∙ ap length s.params.items
       ∙ ap (λ (o : Option MethodDecl). length (maybe o [] (λ m. m.params))) s.method ∙ sym (ap (λ (m : MethodDecl). length m.params) record_method)

@@ -4,7 +4,7 @@ ghost use Rattle.format.specs.Limits.{max_height, max_registers};
 ghost use Rattle.format.specs.Rules.{keeps};
 ghost use Rattle.jinja.specs.Types.{type_number};
 ghost use Rattle.jinja.specs.Rows as rows;
-ghost use Rattle.tables.specs.Views.{program_of};
+ghost use Rattle.tables.specs.Views.{methods_of, program_of};
 ghost use Rattle.tables.specs.Methods.{Whole};
 ghost use Rattle.walk.specs.Limits.{most_nodes};
 ghost use Rattle.type_rows.specs.Methods.{the_method};
@@ -24,7 +24,7 @@ pub struct Method<'a> {
     pub(crate) result: Ty,
     ghost kept: { keeps (program_of tables.now) ≡ true },
     ghost whole: { Whole tables.now },
-    ghost there: { number < tables.now.method_count },
+    ghost there: { number < length (methods_of tables.now) },
     ghost short: { length (the_method (program_of tables.now) number).method.code ≤ most_nodes },
     ghost high: { height ≡ (the_method (program_of tables.now) number).method.height },
     ghost low: { height ≤ max_height },

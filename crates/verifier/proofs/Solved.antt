@@ -8,6 +8,7 @@ use Rattle.jinja.specs.Rows.{Table, unreached}
 use Rattle.jinja.specs.WellTyping as typing
 use Rattle.jinja.proofs.Options.{conflict, some_inj}
 use Rattle.tables.specs.Methods.{unowned}
+use Rattle.tables.specs.Views.{methods_of}
 use Rattle.tables.proofs.Owners.{methods_numbered}
 use Rattle.tables.proofs.Standing.{method_lacks}
 use Rattle.set.specs.declared.set.Set.{Set}
@@ -61,7 +62,7 @@ no_owned None p e n = refl
 no_owned (Some N) p e n = absurd (conflict (sym n ∙ sym e))
 
 -- no method has a number from the count on
-pub past_typed : (s : Set) (k : ℕ) → (tables_of s).method_count ≤ k → TypedAt (set_program s) k
+pub past_typed : (s : Set) (k : ℕ) → length (methods_of (tables_of s)) ≤ k → TypedAt (set_program s) k
 past_typed s k l = none_typed (set_program s) k (no_owned _ _ (methods_numbered (tables_of s) k s.whole) (method_lacks (tables_of s) k l).method)
 
 chosen : {P : Program} (o : Option Owned) → ((M : Owned) → o ≡ Some M → (rows : Table) × typing.Least P M rows) → Table

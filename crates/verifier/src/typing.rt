@@ -14,7 +14,7 @@ pub(crate) fn first_untypable(set: &Set, workspace: &mut [u16]) -> Option<usize>
     ensures { MatchOption result ((k : ℕ) → TypedAt (set_program set.now) k) (FirstUntyped (set_program set.now)) }
 {
     // Kept, no plainer by `find`: a closure that writes the workspace tells nothing of what it answered before.
-    for k in 0..set.tables().method_count {
+    for k in 0..set.tables().methods.len() {
         if !is_typable(set, k, workspace) {
             return Some(k);
         }

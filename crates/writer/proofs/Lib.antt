@@ -1,7 +1,6 @@
 -- Lemmas on what a pen did, and on the tables that it went over.
 mod Exits
 mod Counted
-mod Spans
 mod Programs
 mod ReadBack
 mod Sizes

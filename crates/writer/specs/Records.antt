@@ -6,7 +6,6 @@ use Rattle.format.specs.Encode.{instr_bytes, handler_bytes, counted_bytes}
 use Rattle.tables.specs.declared.records.ClassRec.{ClassRec}
 use Rattle.tables.specs.declared.records.MethodRec.{MethodRec}
 use Rattle.tables.specs.declared.tables.Tables.{Tables}
-use Rattle.tables.specs.Spans.{FieldsWithin, MethodsWithin, ParamsWithin, CodeWithin, HandlersWithin}
 use Rattle.tables.specs.Views.{fields_of, params_of, instrs_of, handlers_of, method_view, method_views, class_view}
 
 abbrev pub method_of : Tables → MethodRec → MethodDecl
@@ -14,16 +13,6 @@ method_of t m = method_view (params_of t) (instrs_of t) (handlers_of t) m
 
 abbrev pub class_of : Tables → ClassRec → ClassDecl
 class_of t c = class_view (fields_of t) (method_views t) c
-
--- the lists of a method, and of a class, lie within the tables
-pub record MethodWithin (t : Tables) (m : MethodRec) : Type 0 where
-  pub params : ParamsWithin t.param_count m
-  pub code : CodeWithin t.instr_count m
-  pub handlers : HandlersWithin t.handler_count m
-
-pub record ClassWithin (t : Tables) (c : ClassRec) : Type 0 where
-  pub fields : FieldsWithin t.field_count c
-  pub methods : MethodsWithin t.method_count c
 
 abbrev pub body_bytes : MethodDecl → List ℕ
 body_bytes m = bytes m.height ++ (bytes m.extras ++ (counted_bytes instr_bytes m.code ++ counted_bytes handler_bytes m.handlers))

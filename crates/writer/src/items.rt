@@ -6,7 +6,7 @@ ghost use Rattle.jinja.specs.Types.{type_number};
 ghost use Rattle.format.specs.Encode.{type_bytes, literal_bytes, instr_bytes, field_bytes, handler_bytes};
 
 use crate::lists::Item;
-use crate::numbers::{put_five, put_three, put_two};
+use crate::numbers::put_numbers;
 use jinja::instr::{Instr, Literal};
 use jinja::program::{Field, Handler};
 use jinja::ty::Ty;
@@ -15,22 +15,16 @@ use number::signed::from_signed;
 use tables::tables::Tables;
 
 // The number by which a file names the type.
-fn type_number(t: Ty) -> u32
+fn number_of(t: Ty) -> u32
     ensures { result ≡ type_number t }
 {
-    match t {
-        Ty::Void => 0,
-        Ty::Boolean => 1,
-        Ty::Integer => 2,
-        Ty::NullType => 3,
-        Ty::Class(c) => 4 + u32::from(c),
-    }
+    u32::from(u16::from(t))
 }
 
 pub(crate) fn put_type(pen: &mut Pen, t: Ty) -> Result<(), Short>
     ensures { Puts result (pen_of pen.old) (pen_of pen.new) (type_bytes t) }
 {
-    pen.put_number(type_number(t))
+    pen.put_number(number_of(t))
 }
 
 fn put_literal(pen: &mut Pen, v: Literal) -> Result<(), Short>
@@ -39,9 +33,9 @@ fn put_literal(pen: &mut Pen, v: Literal) -> Result<(), Short>
     match v {
         Literal::Unit => pen.put_number(0),
         Literal::Null => pen.put_number(1),
-        Literal::Boolean(false) => put_two(pen, 2, 0),
-        Literal::Boolean(true) => put_two(pen, 2, 1),
-        Literal::Integer(z) => put_two(pen, 3, from_signed(z)),
+        Literal::Boolean(false) => put_numbers(pen, &[2, 0]),
+        Literal::Boolean(true) => put_numbers(pen, &[2, 1]),
+        Literal::Integer(z) => put_numbers(pen, &[3, from_signed(z)]),
     }
 }
 
@@ -56,20 +50,20 @@ fn put_instr(pen: &mut Pen, x: Instr) -> Result<(), Short>
     ensures { Puts result (pen_of pen.old) (pen_of pen.new) (instr_bytes x) }
 {
     match x {
-        Instr::Load(n) => put_two(pen, 0, u32::from(n)),
-        Instr::Store(n) => put_two(pen, 1, u32::from(n)),
+        Instr::Load(n) => put_numbers(pen, &[0, u32::from(n)]),
+        Instr::Store(n) => put_numbers(pen, &[1, u32::from(n)]),
         Instr::Push(v) => put_push(pen, v),
         Instr::Pop => pen.put_number(3),
-        Instr::New(c) => put_two(pen, 4, u32::from(c)),
-        Instr::Getfield(f, c) => put_three(pen, 5, u32::from(f), u32::from(c)),
-        Instr::Putfield(f, c) => put_three(pen, 6, u32::from(f), u32::from(c)),
-        Instr::Checkcast(c) => put_two(pen, 7, u32::from(c)),
-        Instr::Invoke(m, n) => put_three(pen, 8, u32::from(m), u32::from(n)),
+        Instr::New(c) => put_numbers(pen, &[4, u32::from(c)]),
+        Instr::Getfield(f, c) => put_numbers(pen, &[5, u32::from(f), u32::from(c)]),
+        Instr::Putfield(f, c) => put_numbers(pen, &[6, u32::from(f), u32::from(c)]),
+        Instr::Checkcast(c) => put_numbers(pen, &[7, u32::from(c)]),
+        Instr::Invoke(m, n) => put_numbers(pen, &[8, u32::from(m), u32::from(n)]),
         Instr::Return => pen.put_number(9),
         Instr::IAdd => pen.put_number(10),
         Instr::CmpEq => pen.put_number(11),
-        Instr::IfFalse(z) => put_two(pen, 12, from_signed(i32::from(z))),
-        Instr::Goto(z) => put_two(pen, 13, from_signed(i32::from(z))),
+        Instr::IfFalse(z) => put_numbers(pen, &[12, from_signed(i32::from(z))]),
+        Instr::Goto(z) => put_numbers(pen, &[13, from_signed(i32::from(z))]),
         Instr::Throw => pen.put_number(14),
     }
 }
@@ -77,25 +71,25 @@ fn put_instr(pen: &mut Pen, x: Instr) -> Result<(), Short>
 fn put_field(pen: &mut Pen, f: Field) -> Result<(), Short>
     ensures { Puts result (pen_of pen.old) (pen_of pen.new) (field_bytes f) }
 {
-    put_two(pen, u32::from(f.name), type_number(f.ty))
+    put_numbers(pen, &[u32::from(f.name), number_of(f.ty)])
 }
 
 fn put_handler(pen: &mut Pen, h: Handler) -> Result<(), Short>
     ensures { Puts result (pen_of pen.old) (pen_of pen.new) (handler_bytes h) }
 {
-    put_five(
+    put_numbers(
         pen,
-        u32::from(h.first),
-        u32::from(h.end),
-        u32::from(h.class),
-        u32::from(h.target),
-        u32::from(h.depth),
+        &[
+            u32::from(h.first),
+            u32::from(h.end),
+            u32::from(h.class),
+            u32::from(h.target),
+            u32::from(h.depth),
+        ],
     )
 }
 
 impl Item for Ty {
-    ghost within = { λ _ _. Unit {0} };
-
     ghost stands = { λ _ x. type_bytes x };
 
     fn put(self, _tables: &Tables, pen: &mut Pen) -> Result<(), Short> {
@@ -104,8 +98,6 @@ impl Item for Ty {
 }
 
 impl Item for Instr {
-    ghost within = { λ _ _. Unit {0} };
-
     ghost stands = { λ _ x. instr_bytes x };
 
     fn put(self, _tables: &Tables, pen: &mut Pen) -> Result<(), Short> {
@@ -114,8 +106,6 @@ impl Item for Instr {
 }
 
 impl Item for Field {
-    ghost within = { λ _ _. Unit {0} };
-
     ghost stands = { λ _ x. field_bytes x };
 
     fn put(self, _tables: &Tables, pen: &mut Pen) -> Result<(), Short> {
@@ -124,8 +114,6 @@ impl Item for Field {
 }
 
 impl Item for Handler {
-    ghost within = { λ _ _. Unit {0} };
-
     ghost stands = { λ _ x. handler_bytes x };
 
     fn put(self, _tables: &Tables, pen: &mut Pen) -> Result<(), Short> {

@@ -3,8 +3,8 @@ use Rattle.std.specs.List.{slice_get}
 use Rattle.std.proofs.lemmas.Option.{slice_get-get_or}
 use Rattle.jinja.specs.declared.instr.Instr.TheVariants.{Load}
 use Rattle.jinja.specs.Lookups.{method_at}
-use Rattle.tables.specs.Views.{program_of}
-use Rattle.tables.proofs.Spans.{length_part}
+use Rattle.tables.specs.Views.{instrs_of, params_of, program_of}
+use Rattle.tables.proofs.Spans.{length_part, few_instrs}
 use Rattle.engine.specs.Limits.{cell_limit}
 use Rattle.engine.specs.Views.{frames_of}
 use Rattle.engine.specs.Stepping.{top_pc}
@@ -32,8 +32,8 @@ exec-requires g c =
     let m = c.in_ok-method.ensures.spans in
     let w = found_method (method_at P k) (c.method-2.ensures.numbered c.args.program.whole ∙ m.method) in
     let within = m.code.within in
-    let code = ap length c.code_from-code.ensures ∙ length_part c.in_ok-method.method.code t.instrs within in
-    let all = t.all_instrs in
+    let code = ap length c.code_from-code.ensures ∙ length_part c.in_ok-method.method.code (instrs_of t) within in
+    let all = few_instrs t in
     let height = ap (λ d. d.height) w.2 in
     let fit : w.0.method.height ≤ cell_limit = c.args.program.fitting.heights k w.0 w.1 in
     record {
@@ -57,6 +57,6 @@ returns g c =
     (c.exec.ensures w.0 (record {
       height = ap (λ d. d.height) w.2;
       result = ap (λ d. d.result) w.2;
-      params = ap length (record_params t m w.0 w.2) ∙ length_part c.in_ok-method.method.params t.params m.params.within;
+      params = ap length (record_params t m w.0 w.2) ∙ length_part c.in_ok-method.method.params (params_of t) m.params.within;
       code = ap length code;
     }))

@@ -12,6 +12,7 @@ use Rattle.tables.specs.Views.{classes_of, fields_of, methods_of, method_views, 
 use Rattle.set.specs.Counts.{more_at, below_at}
 use Rattle.set.proofs.AddedClass.{known_classes, fields_kept, whole_fields, tallied_fields, numbered_push, part_mine, program_push, full_push, class_as}
 use Rattle.set.proofs.Checked.{fields_counted}
+use Rattle.set.proofs.Kept.{kept_classes, kept_methods}
 use Rattle.set.proofs.ClassWays.{no_superclass, no_fields, no_methods, one_class}
 use Rattle.set.proofs.Ways.{moved}
 use Rattle.set.proofs.class.read_class.Goals as goal
@@ -25,14 +26,14 @@ returns-in_err-superclass c =
       file = c.in_err-superclass.ensures.file;
       full = tt;
       more = tt;
-      gave = no_superclass file c.args.n (program_of t) (place_of c.args.c.now) c.in_err-superclass.field-0.0 (ap (λ k. below_at file k (place_of c.args.c.now)) (known_classes t) ∙ c.in_err-superclass.ensures.gave);
+      gave = no_superclass file c.args.n (program_of t) (place_of c.args.c.now) c.in_err-superclass.field-0.0 (ap (λ k. below_at file k (place_of c.args.c.now)) (known_classes t ∙ ap (λ n. 4 + n) (sym c.len.ensures.count)) ∙ c.in_err-superclass.ensures.gave);
     })
 
 pub returns-in_err-fields : goal.returns-in_err-fields
 returns-in_err-fields c =
     let t = c.args.t.now in
     let file = file_of c.args.c.now in
-    let a_superclass = ap (λ k. below_at file k (place_of c.args.c.now)) (known_classes t) ∙ c.in_ok-superclass.ensures.gave in
+    let a_superclass = ap (λ k. below_at file k (place_of c.args.c.now)) (known_classes t ∙ ap (λ n. 4 + n) (sym c.len.ensures.count)) ∙ c.in_ok-superclass.ensures.gave in
     let f_superclass = c.in_ok-superclass.ensures.file in
     let p = err_from_is_err_and c.from_residual-in_err-fields.result c.from_residual-in_err-fields.ensures.1 in
     rw (p.1, p.2) (record {
@@ -55,7 +56,7 @@ pub returns-in_err-methods : goal.returns-in_err-methods
 returns-in_err-methods c =
     let t = c.args.t.now in
     let file = file_of c.args.c.now in
-    let a_superclass = ap (λ k. below_at file k (place_of c.args.c.now)) (known_classes t) ∙ c.in_ok-superclass.ensures.gave in
+    let a_superclass = ap (λ k. below_at file k (place_of c.args.c.now)) (known_classes t ∙ ap (λ n. 4 + n) (sym c.len.ensures.count)) ∙ c.in_ok-superclass.ensures.gave in
     let f_superclass = c.in_ok-superclass.ensures.file in
     let a_fields = fields_counted file c.args.n (program_of t) c.in_ok-superclass.superclass (place_of c.read_superclass.new.c) c.row_len-inherited.result (sym c.row_len-inherited.ensures.len)
     ∙ moved (λ x. then (more_at x c.row_len-inherited.result max_fields (place_of c.read_superclass.new.c)) (λ k q. counted (field_at x c.args.n) k [] q)) f_superclass c.in_ok-fields.ensures.gave.0 in
@@ -79,10 +80,10 @@ push_class-requires c =
     let more = c.in_ok-methods.ensures.more in
     let kept = fields_kept t c.read_fields.new.t c.in_ok-fields.fields o b in
     let first : c.in_ok-methods.methods.first ≡ count_methods (program_of v) =
-    c.in_ok-methods.ensures.first ∙ (ap length o.methods ∙ (sym c.requires.full.whole ∙ sym (ap count_methods (more.program ∙ kept)))) in
+    c.in_ok-methods.ensures.first ∙ (ap length (kept_methods o) ∙ (sym c.requires.full.whole ∙ sym (ap count_methods (more.program ∙ kept)))) in
     let all : length (methods_of v) ≡ c.in_ok-methods.methods.first + c.in_ok-methods.methods.count = omega (arith, more.methods, c.in_ok-methods.ensures.first) in
     let k : ClassRec = record { superclass = c.in_ok-superclass.superclass; fields = c.in_ok-fields.fields; methods = c.in_ok-methods.methods } in
-    let same = more.classes ∙ o.classes in
+    let same = more.classes ∙ (kept_classes o) in
     record {
       room = omega (arith, c.requires.room, ap length same);
       fields = omega (arith, b.all, ap length more.fields);
@@ -94,7 +95,7 @@ pub returns : goal.returns
 returns c =
     let t = c.args.t.now in
     let file = file_of c.args.c.now in
-    let a_superclass = ap (λ k. below_at file k (place_of c.args.c.now)) (known_classes t) ∙ c.in_ok-superclass.ensures.gave in
+    let a_superclass = ap (λ k. below_at file k (place_of c.args.c.now)) (known_classes t ∙ ap (λ n. 4 + n) (sym c.len.ensures.count)) ∙ c.in_ok-superclass.ensures.gave in
     let f_superclass = c.in_ok-superclass.ensures.file in
     let a_fields = fields_counted file c.args.n (program_of t) c.in_ok-superclass.superclass (place_of c.read_superclass.new.c) c.row_len-inherited.result (sym c.row_len-inherited.ensures.len)
     ∙ moved (λ x. then (more_at x c.row_len-inherited.result max_fields (place_of c.read_superclass.new.c)) (λ k q. counted (field_at x c.args.n) k [] q)) f_superclass c.in_ok-fields.ensures.gave.0 in
@@ -105,10 +106,10 @@ returns c =
     let more = c.in_ok-methods.ensures.more in
     let kept = fields_kept t c.read_fields.new.t c.in_ok-fields.fields o b in
     let first : c.in_ok-methods.methods.first ≡ count_methods (program_of v) =
-    c.in_ok-methods.ensures.first ∙ (ap length o.methods ∙ (sym c.requires.full.whole ∙ sym (ap count_methods (more.program ∙ kept)))) in
+    c.in_ok-methods.ensures.first ∙ (ap length (kept_methods o) ∙ (sym c.requires.full.whole ∙ sym (ap count_methods (more.program ∙ kept)))) in
     let all : length (methods_of v) ≡ c.in_ok-methods.methods.first + c.in_ok-methods.methods.count = omega (arith, more.methods, c.in_ok-methods.ensures.first) in
     let k : ClassRec = record { superclass = c.in_ok-superclass.superclass; fields = c.in_ok-fields.fields; methods = c.in_ok-methods.methods } in
-    let same = more.classes ∙ o.classes in
+    let same = more.classes ∙ (kept_classes o) in
     let a_methods = moved (λ x. methods_at x c.args.n (program_of t) c.in_ok-superclass.superclass (place_of c.read_fields.new.c)) f_fields
     (sym (ap (λ P. methods_at (file_of c.read_fields.new.c) c.args.n P c.in_ok-superclass.superclass (place_of c.read_fields.new.c)) kept) ∙ c.in_ok-methods.ensures.gave) in
     let u = c.push_class.new.t in

@@ -13,6 +13,7 @@ use Rattle.tables.proofs.Spans.{length_part}
 use Rattle.set.specs.Progress.{mine}
 use Rattle.set.proofs.Extends.{program_kept}
 use Rattle.set.proofs.Added.{names_mine, behind_as, behind_within, params_extend, view_as, mine_more, tallied_more, method_more}
+use Rattle.set.proofs.Kept.{kept_classes, kept_fields, kept_handlers, kept_instrs, kept_methods, kept_params}
 use Rattle.set.proofs.Ways.{moved, no_name, no_params, no_result, no_height, no_extras, no_code, no_handlers, one_more}
 use Rattle.set.proofs.method.read_method.Goals as goal
 
@@ -25,14 +26,14 @@ returns-in_err-name c =
       file = c.in_err-name.ensures.file;
       tallied = tt;
       more = tt;
-      gave = no_name file c.args.n (program_of t) c.args.s (mine c.args.first t) (place_of c.args.c.now) c.in_err-name.field-0.0 (names_mine file t c.args.first (place_of c.args.c.now) c.requires.tallied.within ∙ c.in_err-name.ensures.gave);
+      gave = no_name file c.args.n (program_of t) c.args.s (mine c.args.first t) (place_of c.args.c.now) c.in_err-name.field-0.0 (names_mine file t c.args.first (place_of c.args.c.now) _ c.as_slice.ensures.items ∙ c.in_err-name.ensures.gave);
     })
 
 pub returns-in_err-params : goal.returns-in_err-params
 returns-in_err-params c =
     let t = c.args.t.now in
     let file = file_of c.args.c.now in
-    let a_name = names_mine file t c.args.first (place_of c.args.c.now) c.requires.tallied.within ∙ c.in_ok-name.ensures.gave in
+    let a_name = names_mine file t c.args.first (place_of c.args.c.now) _ c.as_slice.ensures.items ∙ c.in_ok-name.ensures.gave in
     let f_name = c.in_ok-name.ensures.file in
     let p = err_from_is_err_and c.from_residual-in_err-params.result c.from_residual-in_err-params.ensures.1 in
     rw (p.1, p.2) (record {
@@ -46,7 +47,7 @@ pub returns-in_err-result : goal.returns-in_err-result
 returns-in_err-result c =
     let t = c.args.t.now in
     let file = file_of c.args.c.now in
-    let a_name = names_mine file t c.args.first (place_of c.args.c.now) c.requires.tallied.within ∙ c.in_ok-name.ensures.gave in
+    let a_name = names_mine file t c.args.first (place_of c.args.c.now) _ c.as_slice.ensures.items ∙ c.in_ok-name.ensures.gave in
     let f_name = c.in_ok-name.ensures.file in
     let a_params = moved (λ x. params_at x c.args.n (place_of c.read_name.new.c)) f_name c.in_ok-params.ensures.gave.0 in
     let f_params = c.in_ok-params.ensures.file ∙ f_name in
@@ -65,7 +66,7 @@ pub returns-in_err-height : goal.returns-in_err-height
 returns-in_err-height c =
     let t = c.args.t.now in
     let file = file_of c.args.c.now in
-    let a_name = names_mine file t c.args.first (place_of c.args.c.now) c.requires.tallied.within ∙ c.in_ok-name.ensures.gave in
+    let a_name = names_mine file t c.args.first (place_of c.args.c.now) _ c.as_slice.ensures.items ∙ c.in_ok-name.ensures.gave in
     let f_name = c.in_ok-name.ensures.file in
     let a_params = moved (λ x. params_at x c.args.n (place_of c.read_name.new.c)) f_name c.in_ok-params.ensures.gave.0 in
     let f_params = c.in_ok-params.ensures.file ∙ f_name in
@@ -86,7 +87,7 @@ pub returns-in_err-extras : goal.returns-in_err-extras
 returns-in_err-extras c =
     let t = c.args.t.now in
     let file = file_of c.args.c.now in
-    let a_name = names_mine file t c.args.first (place_of c.args.c.now) c.requires.tallied.within ∙ c.in_ok-name.ensures.gave in
+    let a_name = names_mine file t c.args.first (place_of c.args.c.now) _ c.as_slice.ensures.items ∙ c.in_ok-name.ensures.gave in
     let f_name = c.in_ok-name.ensures.file in
     let a_params = moved (λ x. params_at x c.args.n (place_of c.read_name.new.c)) f_name c.in_ok-params.ensures.gave.0 in
     let f_params = c.in_ok-params.ensures.file ∙ f_name in
@@ -99,18 +100,18 @@ returns-in_err-extras c =
     let f_height = c.in_ok-height.ensures.file ∙ f_result in
     let p = err_from_is_err_and c.from_residual-in_err-extras.result c.from_residual-in_err-extras.ensures.1 in
     rw (p.1, p.2) (record {
-      file = c.in_err-extras.ensures.file ∙ f_height;
+      file = c.in_err-extras.ensures.took.file ∙ f_height;
       tallied = tt;
       more = tt;
       gave = no_extras file c.args.n (program_of t) c.args.s (mine c.args.first t) (place_of c.args.c.now) _ _ a_name _ _ a_params _ _ a_result _ _ a_height c.in_err-extras.field-0.0 (moved (λ x. extras_at x (length ps) (place_of c.at_most.new.c)) f_height
-          (ap (λ k. extras_at (file_of c.at_most.new.c) k (place_of c.at_most.new.c)) (length_part c.in_ok-params.params (params_of c.read_params.new.t) (behind_within c.in_ok-params.ensures.gave.1)) ∙ c.in_err-extras.ensures.gave));
+          (ap (λ k. extras_at (file_of c.at_most.new.c) k (place_of c.at_most.new.c)) (length_part c.in_ok-params.params (params_of c.read_params.new.t) (behind_within c.in_ok-params.ensures.gave.1)) ∙ c.in_err-extras.ensures.took.gave));
     })
 
 pub returns-in_err-code : goal.returns-in_err-code
 returns-in_err-code c =
     let t = c.args.t.now in
     let file = file_of c.args.c.now in
-    let a_name = names_mine file t c.args.first (place_of c.args.c.now) c.requires.tallied.within ∙ c.in_ok-name.ensures.gave in
+    let a_name = names_mine file t c.args.first (place_of c.args.c.now) _ c.as_slice.ensures.items ∙ c.in_ok-name.ensures.gave in
     let f_name = c.in_ok-name.ensures.file in
     let a_params = moved (λ x. params_at x c.args.n (place_of c.read_name.new.c)) f_name c.in_ok-params.ensures.gave.0 in
     let f_params = c.in_ok-params.ensures.file ∙ f_name in
@@ -122,22 +123,22 @@ returns-in_err-code c =
     let a_height = moved (λ x. at_most x max_height (place_of c.read_result.new.c)) f_result c.in_ok-height.ensures.gave in
     let f_height = c.in_ok-height.ensures.file ∙ f_result in
     let a_extras = moved (λ x. extras_at x (length ps) (place_of c.at_most.new.c)) f_height
-    (ap (λ k. extras_at (file_of c.at_most.new.c) k (place_of c.at_most.new.c)) (length_part c.in_ok-params.params (params_of c.read_params.new.t) (behind_within c.in_ok-params.ensures.gave.1)) ∙ c.in_ok-extras.ensures.gave) in
-    let f_extras = c.in_ok-extras.ensures.file ∙ f_height in
+    (ap (λ k. extras_at (file_of c.at_most.new.c) k (place_of c.at_most.new.c)) (length_part c.in_ok-params.params (params_of c.read_params.new.t) (behind_within c.in_ok-params.ensures.gave.1)) ∙ c.in_ok-extras.ensures.took.gave) in
+    let f_extras = c.in_ok-extras.ensures.took.file ∙ f_height in
     let p = err_from_is_err_and c.from_residual-in_err-code.result c.from_residual-in_err-code.ensures.1 in
     rw (p.1, p.2) (record {
       file = c.in_err-code.ensures.file ∙ f_extras;
       tallied = tt;
       more = tt;
       gave = no_code file c.args.n (program_of t) c.args.s (mine c.args.first t) (place_of c.args.c.now) _ _ a_name _ _ a_params _ _ a_result _ _ a_height _ _ a_extras c.in_err-code.field-0.0 (moved (λ x. code_at x (program_code (program_of t) + count_code (mine c.args.first t)) (place_of c.read_more.new.c)) f_extras
-          (sym (ap (λ k. code_at (file_of c.read_more.new.c) k (place_of c.read_more.new.c)) (ap length c.in_ok-params.ensures.rest.instrs ∙ c.requires.tallied.code)) ∙ c.in_err-code.ensures.gave));
+          (sym (ap (λ k. code_at (file_of c.read_more.new.c) k (place_of c.read_more.new.c)) (ap length (kept_instrs c.in_ok-params.ensures.rest) ∙ c.requires.tallied.code)) ∙ c.in_err-code.ensures.gave));
     })
 
 pub returns-in_err-handlers : goal.returns-in_err-handlers
 returns-in_err-handlers c =
     let t = c.args.t.now in
     let file = file_of c.args.c.now in
-    let a_name = names_mine file t c.args.first (place_of c.args.c.now) c.requires.tallied.within ∙ c.in_ok-name.ensures.gave in
+    let a_name = names_mine file t c.args.first (place_of c.args.c.now) _ c.as_slice.ensures.items ∙ c.in_ok-name.ensures.gave in
     let f_name = c.in_ok-name.ensures.file in
     let a_params = moved (λ x. params_at x c.args.n (place_of c.read_name.new.c)) f_name c.in_ok-params.ensures.gave.0 in
     let f_params = c.in_ok-params.ensures.file ∙ f_name in
@@ -149,10 +150,10 @@ returns-in_err-handlers c =
     let a_height = moved (λ x. at_most x max_height (place_of c.read_result.new.c)) f_result c.in_ok-height.ensures.gave in
     let f_height = c.in_ok-height.ensures.file ∙ f_result in
     let a_extras = moved (λ x. extras_at x (length ps) (place_of c.at_most.new.c)) f_height
-    (ap (λ k. extras_at (file_of c.at_most.new.c) k (place_of c.at_most.new.c)) (length_part c.in_ok-params.params (params_of c.read_params.new.t) (behind_within c.in_ok-params.ensures.gave.1)) ∙ c.in_ok-extras.ensures.gave) in
-    let f_extras = c.in_ok-extras.ensures.file ∙ f_height in
+    (ap (λ k. extras_at (file_of c.at_most.new.c) k (place_of c.at_most.new.c)) (length_part c.in_ok-params.params (params_of c.read_params.new.t) (behind_within c.in_ok-params.ensures.gave.1)) ∙ c.in_ok-extras.ensures.took.gave) in
+    let f_extras = c.in_ok-extras.ensures.took.file ∙ f_height in
     let a_code = moved (λ x. code_at x (program_code (program_of t) + count_code (mine c.args.first t)) (place_of c.read_more.new.c)) f_extras
-    (sym (ap (λ k. code_at (file_of c.read_more.new.c) k (place_of c.read_more.new.c)) (ap length c.in_ok-params.ensures.rest.instrs ∙ c.requires.tallied.code)) ∙ c.in_ok-code.ensures.gave.0) in
+    (sym (ap (λ k. code_at (file_of c.read_more.new.c) k (place_of c.read_more.new.c)) (ap length (kept_instrs c.in_ok-params.ensures.rest) ∙ c.requires.tallied.code)) ∙ c.in_ok-code.ensures.gave.0) in
     let f_code = c.in_ok-code.ensures.file ∙ f_extras in
     let p = err_from_is_err_and c.from_residual-in_err-handlers.result c.from_residual-in_err-handlers.ensures.1 in
     rw (p.1, p.2) (record {
@@ -160,14 +161,14 @@ returns-in_err-handlers c =
       tallied = tt;
       more = tt;
       gave = no_handlers file c.args.n (program_of t) c.args.s (mine c.args.first t) (place_of c.args.c.now) _ _ a_name _ _ a_params _ _ a_result _ _ a_height _ _ a_extras _ _ a_code c.in_err-handlers.field-0.0 (moved (λ x. handlers_at x (program_handlers (program_of t) + count_handlers (mine c.args.first t)) (place_of c.read_code.new.c)) f_code
-          (sym (ap (λ k. handlers_at (file_of c.read_code.new.c) k (place_of c.read_code.new.c)) (ap length (c.in_ok-code.ensures.rest.handlers ∙ c.in_ok-params.ensures.rest.handlers) ∙ c.requires.tallied.handlers)) ∙ c.in_err-handlers.ensures.gave));
+          (sym (ap (λ k. handlers_at (file_of c.read_code.new.c) k (place_of c.read_code.new.c)) (ap length (kept_handlers c.in_ok-code.ensures.rest ∙ kept_handlers c.in_ok-params.ensures.rest) ∙ c.requires.tallied.handlers)) ∙ c.in_err-handlers.ensures.gave));
     })
 
 pub returns : goal.returns
 returns c =
     let t = c.args.t.now in
     let file = file_of c.args.c.now in
-    let a_name = names_mine file t c.args.first (place_of c.args.c.now) c.requires.tallied.within ∙ c.in_ok-name.ensures.gave in
+    let a_name = names_mine file t c.args.first (place_of c.args.c.now) _ c.as_slice.ensures.items ∙ c.in_ok-name.ensures.gave in
     let f_name = c.in_ok-name.ensures.file in
     let a_params = moved (λ x. params_at x c.args.n (place_of c.read_name.new.c)) f_name c.in_ok-params.ensures.gave.0 in
     let f_params = c.in_ok-params.ensures.file ∙ f_name in
@@ -179,22 +180,22 @@ returns c =
     let a_height = moved (λ x. at_most x max_height (place_of c.read_result.new.c)) f_result c.in_ok-height.ensures.gave in
     let f_height = c.in_ok-height.ensures.file ∙ f_result in
     let a_extras = moved (λ x. extras_at x (length ps) (place_of c.at_most.new.c)) f_height
-    (ap (λ k. extras_at (file_of c.at_most.new.c) k (place_of c.at_most.new.c)) (length_part c.in_ok-params.params (params_of c.read_params.new.t) (behind_within c.in_ok-params.ensures.gave.1)) ∙ c.in_ok-extras.ensures.gave) in
-    let f_extras = c.in_ok-extras.ensures.file ∙ f_height in
+    (ap (λ k. extras_at (file_of c.at_most.new.c) k (place_of c.at_most.new.c)) (length_part c.in_ok-params.params (params_of c.read_params.new.t) (behind_within c.in_ok-params.ensures.gave.1)) ∙ c.in_ok-extras.ensures.took.gave) in
+    let f_extras = c.in_ok-extras.ensures.took.file ∙ f_height in
     let a_code = moved (λ x. code_at x (program_code (program_of t) + count_code (mine c.args.first t)) (place_of c.read_more.new.c)) f_extras
-    (sym (ap (λ k. code_at (file_of c.read_more.new.c) k (place_of c.read_more.new.c)) (ap length c.in_ok-params.ensures.rest.instrs ∙ c.requires.tallied.code)) ∙ c.in_ok-code.ensures.gave.0) in
+    (sym (ap (λ k. code_at (file_of c.read_more.new.c) k (place_of c.read_more.new.c)) (ap length (kept_instrs c.in_ok-params.ensures.rest) ∙ c.requires.tallied.code)) ∙ c.in_ok-code.ensures.gave.0) in
     let f_code = c.in_ok-code.ensures.file ∙ f_extras in
     let a_handlers = moved (λ x. handlers_at x (program_handlers (program_of t) + count_handlers (mine c.args.first t)) (place_of c.read_code.new.c)) f_code
-    (sym (ap (λ k. handlers_at (file_of c.read_code.new.c) k (place_of c.read_code.new.c)) (ap length (c.in_ok-code.ensures.rest.handlers ∙ c.in_ok-params.ensures.rest.handlers) ∙ c.requires.tallied.handlers)) ∙ c.in_ok-handlers.ensures.gave.0) in
+    (sym (ap (λ k. handlers_at (file_of c.read_code.new.c) k (place_of c.read_code.new.c)) (ap length (kept_handlers c.in_ok-code.ensures.rest ∙ kept_handlers c.in_ok-params.ensures.rest) ∙ c.requires.tallied.handlers)) ∙ c.in_ok-handlers.ensures.gave.0) in
     let u = c.push_method.new.t in
     let o_params = c.in_ok-params.ensures.rest in
     let o_code = c.in_ok-code.ensures.rest in
     let o_handlers = c.in_ok-handlers.ensures.rest in
     let o_push = c.push_method.ensures.rest in
-    let e_params = o_push.params ∙ (o_handlers.params ∙ o_code.params) in
-    let e_code = o_push.instrs ∙ o_handlers.instrs in
-    let classes = o_push.classes ∙ (o_handlers.classes ∙ (o_code.classes ∙ o_params.classes)) in
-    let fields = o_push.fields ∙ (o_handlers.fields ∙ (o_code.fields ∙ o_params.fields)) in
+    let e_params = kept_params o_push ∙ (kept_params o_handlers ∙ kept_params o_code) in
+    let e_code = kept_instrs o_push ∙ kept_instrs o_handlers in
+    let classes = kept_classes o_push ∙ (kept_classes o_handlers ∙ (kept_classes o_code ∙ kept_classes o_params)) in
+    let fields = kept_fields o_push ∙ (kept_fields o_handlers ∙ (kept_fields o_code ∙ kept_fields o_params)) in
     let m : MethodRec =
     record {
       name = c.in_ok-name.name;
@@ -205,15 +206,15 @@ returns c =
       code = c.in_ok-code.code;
       handlers = c.in_ok-handlers.handlers;
     } in
-    let methods = c.push_method.ensures.methods ∙ ap (λ xs. xs ++ m ∷ []) (o_handlers.methods ∙ (o_code.methods ∙ o_params.methods)) in
+    let methods = c.push_method.ensures.methods ∙ ap (λ xs. xs ++ m ∷ []) (kept_methods o_handlers ∙ (kept_methods o_code ∙ kept_methods o_params)) in
     let b_params = behind_as refl e_params c.in_ok-params.ensures.gave.1 in
-    let b_code = behind_as (sym o_params.instrs) e_code c.in_ok-code.ensures.gave.1 in
-    let b_handlers = behind_as (sym (o_code.handlers ∙ o_params.handlers)) o_push.handlers c.in_ok-handlers.ensures.gave.1 in
+    let b_code = behind_as (sym (kept_instrs o_params)) e_code c.in_ok-code.ensures.gave.1 in
+    let b_handlers = behind_as (sym (kept_handlers o_code ∙ kept_handlers o_params)) (kept_handlers o_push) c.in_ok-handlers.ensures.gave.1 in
     record {
       file = c.in_ok-handlers.ensures.file ∙ f_code;
       tallied = tallied_more t u m classes fields methods b_params b_code b_handlers c.args.first c.requires.tallied c.in_ok-params.ensures.most;
       more = method_more t u m classes fields methods b_params b_code b_handlers;
       gave = one_more file c.args.n (program_of t) c.args.s (mine c.args.first t) (place_of c.args.c.now) _ _ a_name _ _ a_params _ _ a_result _ _ a_height _ _ a_extras _ _ a_code _ _ a_handlers
-          ∙ (ap (λ x. Ok (mine c.args.first t ++ x ∷ [], place_of c.read_handlers.new.c)) (sym (view_as e_params e_code o_push.handlers m))
+          ∙ (ap (λ x. Ok (mine c.args.first t ++ x ∷ [], place_of c.read_handlers.new.c)) (sym (view_as e_params e_code (kept_handlers o_push) m))
           ∙ ap (λ xs. Ok (xs, place_of c.read_handlers.new.c)) (sym (mine_more t u m classes fields methods b_params b_code b_handlers c.args.first c.requires.tallied)));
     }

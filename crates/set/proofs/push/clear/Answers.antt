@@ -1,8 +1,8 @@
--- Counts of 0 leave nothing.
+-- No classes, no program.
 use Rattle.std.proofs.Common.{refl}
 use Rattle.tables.specs.Views.{program_of}
 use Rattle.set.proofs.push.clear.Goals as goal
 
-pub returns : goal.returns
+pub returns-clause-program : goal.returns-clause-program
 unfolding program_of
-returns c = record { empty = record { classes = refl; fields = refl; methods = refl; params = refl; instrs = refl; handlers = refl }; program = refl }
+returns-clause-program c = rw c.clear.ensures refl

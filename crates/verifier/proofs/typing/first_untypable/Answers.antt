@@ -1,7 +1,8 @@
 -- Method by method, and there are no more than the tables count.
-use Rattle.std.proofs.Common.{◌<◌, ◌≤◌, ap, ⊎_elim, arith, below_more}
+use Rattle.std.proofs.Common.{◌<◌, ◌≤◌, length, ap, ⊎_elim, arith, below_more}
 use Rattle.std.proofs.lemmas.Bool.{cases_lt}
 use Rattle.tables.specs.declared.tables.Tables.{Tables}
+use Rattle.tables.specs.Views.{methods_of}
 use Rattle.set.specs.Sets.{set_program}
 use Rattle.verifier.specs.Verdicts.{TypedAt}
 use Rattle.verifier.proofs.Solved.{past_typed}
@@ -15,5 +16,5 @@ returns c =
     λ k.
     ⊎_elim
     (λ (l : k < c.loop-k.k). c.loop-k.invariant k l)
-    (λ (l : c.loop-k.k ≤ k). past_typed c.args.set.now k (omega (arith, c.loop-k-test.false, ap (λ (t : Tables). t.method_count) c.tables.ensures)))
+    (λ (l : c.loop-k.k ≤ k). past_typed c.args.set.now k (omega (arith, c.loop-k-test.false, c.len-k-end.ensures.count, ap (λ (t : Tables). length (methods_of t)) c.tables.ensures)))
     (cases_lt k c.loop-k.k)

@@ -1,5 +1,5 @@
 -- The count, and then an item each turn.
-use Rattle.std.proofs.Common.{sym, subst, zero-le}
+use Rattle.std.proofs.Common.{sym}
 use Rattle.number.proofs.Putting.{full_front, put_full, loop_more_at, loop_full_at}
 use Rattle.writer.proofs.Counted.{counted_all}
 use Rattle.writer.proofs.Exits.{refused}
@@ -25,7 +25,3 @@ pub returns : goal.returns
 returns g c =
     counted_all (g.T.Item.stands c.args.tables.now) c.args.items.now c.loop-x.x-index _ _ _
     c.loop-x-test.false c.in_ok-put_number.ensures c.loop-x.invariant
-
-pub put-requires : goal.put-requires
-put-requires g c =
-    subst (g.T.Item.within c.args.tables.now) (sym c.x-item.is) (c.requires.items c.loop-x.x-index c.x-item.result zero-le c.loop-x-test.true)

@@ -1,26 +1,25 @@
 -- The record of a class, and what it says of the program.
-use Rattle.std.proofs.Common.{◌-◌, ◌<◌, sym, ap, ◌∙◌, arith}
+use Rattle.std.proofs.Common.{sym, ap, ◌∙◌, arith}
+use Rattle.std.specs.List.{slice_get}
 use Rattle.jinja.specs.Classes.{maybe}
-use Rattle.tables.proofs.Programs.{superclass_at, record_built_in, record_past, record_own}
+use Rattle.tables.specs.Views.{classes_of}
+use Rattle.tables.proofs.Programs.{superclass_at, record_built_in, record_own}
+use Rattle.tables.proofs.Numbering.{record_methods, record_fields}
 use Rattle.tables.proofs.tables.Tables.class.Goals as goal
 
-pub returns-then-c-lt-BUILT_IN : goal.returns-then-c-lt-BUILT_IN
-returns-then-c-lt-BUILT_IN c =
-    let e = record_built_in c.args.self.now c.args.c (omega arith) in
-    record { «record» = sym e; superclass = superclass_at c.args.self.now c.args.c ∙ ap (λ r. maybe r 0 (λ d. d.superclass)) e; methods = tt; fields = tt }
+pub returns-in_err-i-clause-superclass : goal.returns-in_err-i-clause-superclass
+returns-in_err-i-clause-superclass c =
+    rw c.from_residual.ensures
+    (superclass_at c.args.self.now c.args.c ∙ ap (λ r. maybe r 0 (λ d. d.superclass)) (record_built_in c.args.self.now c.args.c (omega (arith, c.in_err-i.ensures))))
 
-pub returns-then-i-self : goal.returns-then-i-self
-returns-then-i-self c =
-    let h : c.args.c - 4 < c.args.self.now.class_count = omega arith in
-    let e = record_own c.args.self.now c.args.c _ (omega arith) h in
+pub returns : goal.returns
+returns c =
+    let t = c.args.self.now in
+    let from = c.in_ok-i.ensures in
+    let e = record_own t c.args.c from.0 ∙ ap (slice_get (classes_of t)) (sym from.1) ∙ sym c.get.ensures in
     record {
       «record» = sym e;
-      superclass = superclass_at c.args.self.now c.args.c ∙ ap (λ r. maybe r 0 (λ d. d.superclass)) e;
-      methods = c.args.self.now.class_methods (c.args.c - 4) _ (omega arith) h;
-      fields = c.args.self.now.class_fields (c.args.c - 4) _ (omega arith) h;
+      superclass = superclass_at t c.args.c ∙ ap (λ r. maybe r 0 (λ d. d.superclass)) e;
+      methods = record_methods t c.args.c c.get.result e;
+      fields = record_fields t c.args.c c.get.result e;
     }
-
-pub returns-else-i-self : goal.returns-else-i-self
-returns-else-i-self c =
-    let e = record_past c.args.self.now c.args.c (omega arith) (omega arith) in
-    record { «record» = sym e; superclass = superclass_at c.args.self.now c.args.c ∙ ap (λ r. maybe r 0 (λ d. d.superclass)) e; methods = tt; fields = tt }

@@ -3,6 +3,6 @@ use Rattle.std.proofs.Common.{refl}
 use Rattle.tables.specs.Views.{program_of}
 use Rattle.tables.proofs.tables.Tables.empty.Goals as goal
 
-pub returns : goal.returns
+pub returns-clause-program : goal.returns-clause-program
 unfolding program_of
-returns c = record { program = refl; classes = refl; fields = refl; methods = refl; params = refl; instrs = refl; handlers = refl }
+returns-clause-program c = rw c.new.ensures refl

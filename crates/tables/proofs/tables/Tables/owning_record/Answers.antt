@@ -11,18 +11,21 @@ pub loop-i-init : goal.loop-i-init
 unfolding method_at
 loop-i-init c = let e : c.args.k - 0 ≡ c.args.k = omega arith in (omega arith, ap (slice_get (methods_from 4 (program_of c.args.self.now))) e)
 
-pub returns-then-k-methods : goal.returns-then-k-methods
-returns-then-k-methods c =
-    record {
-      owner = ap owner_of (sym c.loop-i.invariant.1) ∙ owner_here c.args.self.now c.loop-i.i c.args.k _ (omega arith) c.loop-i.invariant.0 c.if-k-methods.true;
-      few = omega (arith, c.args.self.now.few_classes);
-    }
+pub returns-then-k-class-clause-owner : goal.returns-then-k-class-clause-owner
+returns-then-k-class-clause-owner c =
+    let classes = c.as_slice-class-items.ensures.items in
+    ap owner_of (sym c.loop-i.invariant.1)
+    ∙ owner_here c.args.self.now c.loop-i.i c.args.k _ (rw classes at c.loop-i-test.true) c.loop-i.invariant.0 (rw classes at c.if-k-class.true)
 
 pub loop-i-preserved : goal.loop-i-preserved
-loop-i-preserved c = (
-  none_before c.args.self.now c.loop-i.i c.args.k _ (omega arith) c.if-k-methods.false,
-  sym (owner_later c.args.self.now c.loop-i.i c.args.k _ (omega arith) c.if-k-methods.false) ∙ c.loop-i.invariant.1,
-)
+loop-i-preserved c =
+    let classes = c.as_slice-class-items.ensures.items in
+    let there = rw classes at c.loop-i-test.true in
+    let later = rw classes at c.if-k-class.false in (
+      none_before c.args.self.now c.loop-i.i c.args.k _ there later,
+      sym (owner_later c.args.self.now c.loop-i.i c.args.k _ there later) ∙ c.loop-i.invariant.1,
+    )
 
-pub returns : goal.returns
-returns c = record { owner = ap owner_of (sym c.loop-i.invariant.1 ∙ no_owner c.args.self.now c.loop-i.i c.args.k (omega arith)); few = tt }
+pub returns-clause-owner : goal.returns-clause-owner
+returns-clause-owner c =
+    ap owner_of (sym c.loop-i.invariant.1 ∙ no_owner c.args.self.now c.loop-i.i c.args.k (rw c.as_slice-class-items.ensures.items at c.loop-i-test.false))

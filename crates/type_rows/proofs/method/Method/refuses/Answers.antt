@@ -4,6 +4,7 @@ use Rattle.jinja.specs.Classes.{table}
 use Rattle.jinja.specs.Rows as rows
 use Rattle.jinja.specs.Rows.{reached}
 use Rattle.type_rows.specs.MethodFlow.{refuses_row}
+use Rattle.tables.proofs.Spans.{few_classes}
 use Rattle.tables.proofs.Programs.{length_program}
 use Rattle.type_rows.specs.Merging.{InUse}
 use Rattle.type_rows.specs.RowSteps.{row_types, row_cells}
@@ -27,7 +28,7 @@ refuses_reached-requires c =
     let t = m.tables.now in
     let above : 0 < get_or row 0 0 = c.in-Reached.ensures.0 in
     let low : get_or row 0 0 ≤ 17 = c.in-Reached.ensures.1 in
-    let few : length (table P) ≤ 32 = omega (arith, length_program t, t.few_classes) in
+    let few : length (table P) ≤ 32 = omega (arith, length_program t, few_classes t) in
     record {
       reached = record { whole = c.requires.row.whole; small = c.requires.row.small; above = above; low = low };
       told = row_in_use_told P M (row_types row) (row_cells n row) few (subst (InUse P M) (read_reached n row above low) c.requires.row.in_use);

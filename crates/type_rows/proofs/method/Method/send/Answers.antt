@@ -5,6 +5,7 @@ use Rattle.format.proofs.WellFormed.{kept_is_well_formed}
 use Rattle.jinja.specs.Classes.{table}
 use Rattle.jinja.specs.Lookups.{method_at}
 use Rattle.jinja.specs.Rows as rows
+use Rattle.tables.proofs.Spans.{few_classes}
 use Rattle.tables.proofs.Programs.{length_program}
 use Rattle.type_rows.specs.FlowLaws.{taken_at}
 use Rattle.type_rows.specs.Merging.{InUse}
@@ -33,7 +34,7 @@ send_reached-requires c =
     let t = m.tables.now in
     let above : 0 < get_or row 0 0 = c.in-Reached.ensures.0 in
     let low : get_or row 0 0 ≤ 17 = c.in-Reached.ensures.1 in
-    let few : length (table P) ≤ 32 = omega (arith, length_program t, t.few_classes) in
+    let few : length (table P) ≤ 32 = omega (arith, length_program t, few_classes t) in
     let here = c.in_ok-site-in-Reached.ensures.1 in
     let at = ap (slice_get M.method.code) here ∙ c.in_ok-site-in-Reached.ensures.0 in
     let read = read_reached n row above low in
