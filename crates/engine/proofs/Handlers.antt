@@ -1,7 +1,8 @@
 -- The search for a handler, in a table and frame by frame. Assumes nothing.
-use Rattle.std.proofs.Common.{◌≡◌, ℕ, ◌+◌, ◌<◌, ◌≤◌, Bool, true, false, ltb, List, ◌∷◌, length, get_or, drop, Some, None, Option, refl}
+use Rattle.std.proofs.Common.{◌≡◌, ℕ, ◌+◌, ◌<◌, ◌≤◌, true, false, List, ◌∷◌, length, get_or, drop, Some, None, Option, refl}
+use Rattle.std.specs.Prelude.{⊤}
 use Rattle.std.proofs.lemmas.List.{drop_more}
-use Rattle.std.proofs.lemmas.Bool.{le-leb, lt-leb, lt-ltb}
+use Rattle.std.proofs.lemmas.Bool.{le-leb, lt-leb, lt-ltb, le-ltb}
 use Rattle.heap.specs.declared.value.Value.{Value}
 use Rattle.heap.specs.Meaning.{Meaning}
 use Rattle.jinja.specs.declared.program.Handler.{Handler}
@@ -59,8 +60,12 @@ module _ (P : Program) (h : Meaning) (a c : ℕ) (f : Activation) (rest : List A
 
 module _ (P : Program) (f : Activation) (x : Handler) {M : Owned} (cells : List Value) (e : method_at P f.method ≡ Some M) where
   -- too few cells
-  pub lands_short : length f.stack < x.depth → Lands P x f cells false
+  pub lands_short : length f.stack < x.depth → Lands P x f cells None
   lands_short l h a rest = rw (e, lt-leb x.depth (length f.stack) l)
 
-  pub lands_by : x.depth ≤ length f.stack → x.depth < M.method.height → lowest x.depth f.stack ≡ cells → (r : Bool) → r ≡ ltb x.target (length M.method.code) → Lands P x f cells r
-  lands_by l k q r t h a rest = rw (e, le-leb x.depth (length f.stack) l, lt-ltb x.depth M.method.height k, q, t)
+  pub lands_there : {u : ⊤} → x.depth ≤ length f.stack → x.depth < M.method.height → lowest x.depth f.stack ≡ cells → x.target < length M.method.code → Lands P x f cells (Some u)
+  lands_there l k q t h a rest = rw (e, le-leb x.depth (length f.stack) l, lt-ltb x.depth M.method.height k, q, lt-ltb x.target (length M.method.code) t)
+
+  -- a target behind the code
+  pub lands_past : x.depth ≤ length f.stack → x.depth < M.method.height → length M.method.code ≤ x.target → Lands P x f cells None
+  lands_past l k t h a rest = rw (e, le-leb x.depth (length f.stack) l, lt-ltb x.depth M.method.height k, le-ltb x.target (length M.method.code) t)

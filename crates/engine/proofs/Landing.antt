@@ -1,10 +1,11 @@
 -- The frame that catches a thrown object. Assumes nothing.
-use Rattle.std.proofs.Common.{◌≡◌, ℕ, ◌+◌, ◌<◌, Bool, List, ◌∷◌, length, get_or, set, Some, sym, ap, ◌∙◌}
+use Rattle.std.proofs.Common.{◌≡◌, ℕ, ◌+◌, ◌<◌, List, ◌∷◌, length, get_or, set, Some, Option, sym, ap, ◌∙◌}
+use Rattle.std.specs.Prelude.{⊤}
 use Rattle.std.proofs.lemmas.List.{drop_more}
 use Rattle.heap.specs.declared.value.Value.TheVariants as value
 use Rattle.stack.specs.Stacked.{held}
 use Rattle.jinja.specs.declared.program.Handler.{Handler}
-use Rattle.jinja.specs.Options.{◌>>◌}
+use Rattle.jinja.specs.Options.{◌>>=◌}
 use Rattle.jinja.specs.Program.{Program}
 use Rattle.jinja.specs.Step.{goes, at_place}
 use Rattle.engine.specs.declared.frame.Frame.{Frame}
@@ -19,9 +20,9 @@ module _ (x : Handler) (fs : List Frame) (k : ℕ) (l : k < length fs) where
   pub landed_set : (a : ℕ) (d g : Frame) → frame_of g ≡ at_place (frame_of (get_or fs k d)) x.target (value.Addr a ∷ held (get_or fs k d).cells x.depth) → lowest_frames (set fs k g) (k + 1) ≡ Landed x a fs k
   landed_set a d g e = lowest_set fs k g l ∙ ap (λ f. f ∷ lowest_frames fs k) e ∙ sym (landed_read a d)
 
-  pub lands_read : (P : Program) (f : Frame) (r : Bool) → f ≡ get_or fs k f → Lands P x (frame_of f) (held f.cells x.depth) r → LandsAt P x fs k r
+  pub lands_read : (P : Program) (f : Frame) (r : Option ⊤) → f ≡ get_or fs k f → Lands P x (frame_of f) (held f.cells x.depth) r → LandsAt P x fs k r
   lands_read P f r e s h a =
       let g = get_or fs k f in
       ap (catch_top P h a x) (lowest_top fs k f l ∙ ap (λ m. frame_of m ∷ lowest_frames fs k) (sym e)) ∙ s h a (lowest_frames fs k)
-      ∙ ap (λ m. r >> Some (goes h (at_place (frame_of m) x.target (value.Addr a ∷ held m.cells x.depth) ∷ lowest_frames fs k))) e
-      ∙ ap (λ gs. r >> Some (goes h gs)) (sym (landed_read a f))
+      ∙ ap (λ m. r >>= λ _. Some (goes h (at_place (frame_of m) x.target (value.Addr a ∷ held m.cells x.depth) ∷ lowest_frames fs k))) e
+      ∙ ap (λ gs. r >>= λ _. Some (goes h gs)) (sym (landed_read a f))

@@ -1,8 +1,9 @@
 -- The step of Return: the frame below takes the value. Assumes nothing.
-use Rattle.std.proofs.Common.{◌≡◌, ℕ, suc, ◌-◌, ◌<◌, ◌≤◌, Bool, true, false, ltb, List, [], ◌∷◌, length, Some, None, sym, ap, ◌∙◌, add-one, arith}
+use Rattle.std.proofs.Common.{◌≡◌, ℕ, suc, ◌-◌, ◌<◌, ◌≤◌, true, List, [], ◌∷◌, length, Some, None, sym, ap, ◌∙◌, add-one, arith}
+use Rattle.std.specs.Prelude.{⊤}
 use Rattle.std.specs.List.{slice_get}
 use Rattle.std.proofs.lemmas.List.{length-drop}
-use Rattle.std.proofs.lemmas.Bool.{false≢true, ltb-true}
+use Rattle.std.proofs.lemmas.Bool.{false≢true, lt-ltb, le-ltb}
 use Rattle.heap.specs.declared.value.Value.{Value}
 use Rattle.heap.specs.Meaning.{Meaning}
 use Rattle.jinja.specs.declared.instr.Instr.TheVariants.{Return}
@@ -18,26 +19,32 @@ use Rattle.engine.specs.Calling.{below, Resumes}
 use Rattle.engine.proofs.CallOperands.{operands_are, operands_none}
 
 module _ (P : Program) (n : ℕ) (f : Frame) (rest : List Frame) where
-  refused : ((h : Meaning) (v : Value) → return_to P h v n (f ∷ rest) ≡ None) → Resumes P n (f ∷ rest) false
+  refused : ((h : Meaning) (v : Value) → return_to P h v n (f ∷ rest) ≡ None) → Resumes P n (f ∷ rest) None
   refused e = record { does = e; few = λ z. absurd (false≢true z); high = λ z. absurd (false≢true z); low = λ z. absurd (false≢true z) }
 
   -- no method
-  pub resumes_lost : method_at P f.method ≡ None → Resumes P n (f ∷ rest) false
+  pub resumes_lost : method_at P f.method ≡ None → Resumes P n (f ∷ rest) None
   resumes_lost e = refused (λ h v. rw e)
 
   -- too few operands
-  pub resumes_short : {M : Owned} → method_at P f.method ≡ Some M → length f.stack ≤ n → Resumes P n (f ∷ rest) false
+  pub resumes_short : {M : Owned} → method_at P f.method ≡ Some M → length f.stack ≤ n → Resumes P n (f ∷ rest) None
   resumes_short e l = refused (λ h v. rw (e, operands_none n f.stack l))
 
-  pub resumes_by : {M : Owned} → method_at P f.method ≡ Some M → n < length f.stack → length f.stack ≤ cell_limit → M.method.height ≤ cell_limit → (r : Bool) → r ≡ ltb (length f.stack - suc n) M.method.height → Resumes P n (f ∷ rest) r
-  resumes_by {M} e l c m r t =
+  pub resumes_there : {M : Owned} {u : ⊤} → method_at P f.method ≡ Some M → n < length f.stack → length f.stack ≤ cell_limit → M.method.height ≤ cell_limit → length f.stack - suc n < M.method.height → Resumes P n (f ∷ rest) (Some u)
+  resumes_there {M} e l c m k =
       let w = nth_inside f.stack n l in
       record {
-        does = λ h v. rw (e, operands_are n f.stack w.1, length-drop (suc n) f.stack, ← t, add-one n);
+        does = λ h v. rw (e, operands_are n f.stack w.1, length-drop (suc n) f.stack, lt-ltb _ _ k, add-one n);
         few = λ _. omega arith;
         high = λ _. omega arith;
-        low = λ z. let k = ltb-true _ _ (sym t ∙ z) in omega arith;
+        low = λ _. omega arith;
       }
+
+  -- too many operands left
+  pub resumes_high : {M : Owned} → method_at P f.method ≡ Some M → n < length f.stack → M.method.height ≤ length f.stack - suc n → Resumes P n (f ∷ rest) None
+  resumes_high e l k =
+      let w = nth_inside f.stack n l in
+      refused (λ h v. rw (e, operands_are n f.stack w.1, length-drop (suc n) f.stack, le-ltb _ _ k))
 
 -- of a value that fits
 return_fits : (P : Program) (h : Meaning) (M : Owned) (fs : List Frame) {v : Value} → Some v ≡ slice_get (top_stack fs) 0 → fits P h v M.method.result ≡ true → exec_top P Return h M fs ≡ return_to P h v (length M.method.params) (below fs)

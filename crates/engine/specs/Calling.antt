@@ -1,9 +1,9 @@
 -- Calls and returns among the frames that stand. Assumes nothing.
-use Rattle.std.specs.Prelude.{◌≡◌, ℕ, suc, ◌+◌, ◌-◌, ◌<◌, ◌≤◌, Bool, true, cond, List, [], ◌∷◌, ◌++◌, reverse, length, take, drop, replicate, Some, Option, nat_lt}
+use Rattle.std.specs.Prelude.{◌≡◌, ℕ, suc, ◌+◌, ◌-◌, ◌<◌, ◌≤◌, true, cond, List, [], ◌∷◌, ◌++◌, reverse, length, take, drop, replicate, Some, Option, is_some, nat_lt, ⊤}
 use Rattle.heap.specs.declared.value.Value.{Value}
 use Rattle.heap.specs.declared.value.Value.TheVariants as value
 use Rattle.heap.specs.Meaning.{Meaning}
-use Rattle.jinja.specs.Options.{◌>>◌}
+use Rattle.jinja.specs.Options.{◌>>=◌}
 use Rattle.jinja.specs.Program.{Program}
 use Rattle.jinja.specs.Lookups.{Owned}
 use Rattle.jinja.specs.Step.{Frame, Next, goes, frames_full, frame_limit, call, return_to}
@@ -32,8 +32,8 @@ below [] = []
 below (f ∷ rest) = rest
 
 -- the top frame takes a value for n arguments and the receiver, where r holds
-pub record Resumes (P : Program) (n : ℕ) (fs : List Frame) (r : Bool) : Type 0 where
-  pub does : (h : Meaning) (v : Value) → return_to P h v n fs ≡ (r >> Some (goes h (past_with (n + 1) v fs)))
-  pub few : r ≡ true → n < cell_limit
-  pub high : r ≡ true → n + 1 ≤ length (top_stack fs)
-  pub low : r ≡ true → length (top_stack fs) - (n + 1) < cell_limit
+pub record Resumes (P : Program) (n : ℕ) (fs : List Frame) (r : Option ⊤) : Type 0 where
+  pub does : (h : Meaning) (v : Value) → return_to P h v n fs ≡ (r >>= λ _. Some (goes h (past_with (n + 1) v fs)))
+  pub few : is_some r ≡ true → n < cell_limit
+  pub high : is_some r ≡ true → n + 1 ≤ length (top_stack fs)
+  pub low : is_some r ≡ true → length (top_stack fs) - (n + 1) < cell_limit

@@ -1,12 +1,12 @@
 -- Where a thrown object is caught, among the frames that stand. Assumes nothing.
-use Rattle.std.specs.Prelude.{◌≡◌, ℕ, ◌+◌, ◌<◌, Bool, List, [], ◌∷◌, drop, Some, None, Option}
+use Rattle.std.specs.Prelude.{◌≡◌, ℕ, ◌+◌, ◌<◌, List, [], ◌∷◌, drop, Some, None, Option, ⊤}
 use Rattle.stack.specs.Stacked.{held}
 use Rattle.heap.specs.declared.value.Value.{Value}
 use Rattle.heap.specs.declared.value.Value.TheVariants as value
 use Rattle.heap.specs.Meaning.{Meaning}
 use Rattle.jinja.specs.declared.program.Handler.{Handler}
 use Rattle.jinja.specs.Classes.{maybe}
-use Rattle.jinja.specs.Options.{◌>>=◌, ◌>>◌}
+use Rattle.jinja.specs.Options.{◌>>=◌}
 use Rattle.jinja.specs.Program.{Program}
 use Rattle.jinja.specs.Lookups.{method_at}
 use Rattle.jinja.specs.Step.{Frame as Activation, Next, goes, threw, at_place, catcher, catch, unwind}
@@ -29,8 +29,8 @@ Caught P c fs n (Some None) = (h : Meaning) (a : ℕ) → unwind P h a c (lowest
 Caught P c fs n (Some (Some (k, x))) = (k < n) × ((h : Meaning) (a : ℕ) → unwind P h a c (lowest_frames fs n) ≡ catch_top P h a x (lowest_frames fs (k + 1)))
 
 -- a handler that was found in the frame f is used where r holds, with the lowest cells
-abbrev pub Lands : Program → Handler → Activation → List Value → Bool → Type 0
-Lands P x f cells r = (h : Meaning) (a : ℕ) (rest : List Activation) → catch_top P h a x (f ∷ rest) ≡ (r >> Some (goes h (at_place f x.target (value.Addr a ∷ cells) ∷ rest)))
+abbrev pub Lands : Program → Handler → Activation → List Value → Option ⊤ → Type 0
+Lands P x f cells r = (h : Meaning) (a : ℕ) (rest : List Activation) → catch_top P h a x (f ∷ rest) ≡ (r >>= λ _. Some (goes h (at_place f x.target (value.Addr a ∷ cells) ∷ rest)))
 
 -- the frames with the handler in use at k: given by its frame in memory, without a default for what is not there
 abbrev pub land : Handler → ℕ → List Frame → List Activation → List Activation
@@ -40,5 +40,5 @@ land x a (f ∷ fs) rest = at_place (frame_of f) x.target (value.Addr a ∷ held
 abbrev pub Landed : Handler → ℕ → List Frame → ℕ → List Activation
 Landed x a fs k = land x a (drop k fs) (lowest_frames fs k)
 
-abbrev pub LandsAt : Program → Handler → List Frame → ℕ → Bool → Type 0
-LandsAt P x fs k r = (h : Meaning) (a : ℕ) → catch_top P h a x (lowest_frames fs (k + 1)) ≡ (r >> Some (goes h (Landed x a fs k)))
+abbrev pub LandsAt : Program → Handler → List Frame → ℕ → Option ⊤ → Type 0
+LandsAt P x fs k r = (h : Meaning) (a : ℕ) → catch_top P h a x (lowest_frames fs (k + 1)) ≡ (r >>= λ _. Some (goes h (Landed x a fs k)))

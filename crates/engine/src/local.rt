@@ -8,12 +8,13 @@ ghost use Rattle.engine.specs.Moving.{MovesAlways, MovesUnder, MovesWithin, Move
 use crate::bounds::Bounds;
 use crate::frame::Frame;
 use crate::values::{boolean, place_from, sum, value_of};
+use heap::store::Heap;
 use heap::value::Value;
 use jinja::instr::{Instr, Literal};
 
 impl Frame {
     // An instruction of a method with these bounds; those that do more are refused.
-    pub(crate) fn local(&mut self, bounds: Bounds, instr: Instr) -> Option<()>
+    pub(crate) fn local<H: Heap>(&mut self, _heap: &H, bounds: Bounds, instr: Instr) -> Option<()>
         requires inside { self.old.pc < max_instrs }
         ensures { MovesLocally bounds.height bounds.size instr (frame_of self.old) result (frame_of self.new) }
     {

@@ -44,9 +44,7 @@ fn hand_back(program: Program, frames: &mut Frames, v: Value, n: usize) -> Optio
     if frames.is_last() {
         return Some(Next::Returned(v));
     }
-    if !frames.caller_resumes(program, n) {
-        return None;
-    }
+    frames.caller_resumes(program, n)?;
     frames.leave(n + 1, v);
     Some(Next::Goes)
 }
@@ -61,7 +59,7 @@ impl Frames {
     }
 
     // Whether the frame below the top one can take a value for `n` arguments and the receiver.
-    fn caller_resumes(&self, program: Program, n: usize) -> bool
+    fn caller_resumes(&self, program: Program, n: usize) -> Option<()>
         requires some { 2 ≤ self.now.count }
         ensures { Resumes (meaning_of program.entry) n (below (frames_of self.now)) result }
     {
@@ -81,14 +79,15 @@ impl Frames {
 }
 
 // Whether this frame can take a value for `n` arguments and the receiver.
-fn resumes(program: Program, frame: &Frame, n: usize) -> bool
+fn resumes(program: Program, frame: &Frame, n: usize) -> Option<()>
     ensures { (rest : List Activation) → Resumes (meaning_of program.entry) n (frame_of frame.now ∷ rest) result }
 {
-    let Some(method) = program.tables.method(frame.method) else {
-        return false;
-    };
+    let method = program.tables.method(frame.method)?;
     if n >= frame.height {
-        return false;
+        return None;
     }
-    frame.height - (n + 1) < method.height as usize
+    if frame.height - (n + 1) >= method.height as usize {
+        return None;
+    }
+    Some(())
 }

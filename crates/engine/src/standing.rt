@@ -11,20 +11,26 @@ use crate::bounds::Bounds;
 use crate::frame::Frame;
 use crate::frames::Frames;
 use crate::next::Next;
+use heap::store::Heap;
 use heap::value::Value;
 use jinja::instr::Instr;
 
 // Each move stands over a slice of frames too: a `&mut` call on an element of a field got no proof.
 
 // An instruction that moves the frame at `top` alone.
-#[inline]
-fn local_at(frames: &mut [Frame], top: usize, bounds: Bounds, instr: Instr) -> Option<Next>
+fn local_at<H: Heap>(
+    _heap: &H,
+    frames: &mut [Frame],
+    top: usize,
+    bounds: Bounds,
+    instr: Instr,
+) -> Option<Next>
     requires top { top < length frames.old }
     requires inside { top_pc (lowest_frames frames.old (top + 1)) < max_instrs }
     ensures after { StepsLocally bounds.height bounds.size instr (lowest_frames frames.old (top + 1)) result (lowest_frames frames.new (top + 1)) }
     ensures below { take top frames.new ≡ take top frames.old }
 {
-    frames[top].local(bounds, instr)?;
+    frames[top].local(_heap, bounds, instr)?;
     Some(Next::Goes)
 }
 
@@ -109,11 +115,12 @@ impl Frames {
     }
 
     // An instruction that moves the top frame alone, of a method with these bounds.
-    #[inline]
-    pub(crate) fn local(&mut self, bounds: Bounds, instr: Instr) -> Option<Next>
+    // Any heap is handed through, so that each kind of machine has its whole step in one function: with one function for
+    // all heaps a step of the counting loop took 17 ns in place of 8.
+    pub(crate) fn local<H: Heap>(&mut self, _heap: &H, bounds: Bounds, instr: Instr) -> Option<Next>
         requires ready { Ready self.old }
         ensures { StepsLocally bounds.height bounds.size instr (frames_of self.old) result (frames_of self.new) }
     {
-        local_at(&mut self.frames, self.count - 1, bounds, instr)
+        local_at(_heap, &mut self.frames, self.count - 1, bounds, instr)
     }
 }

@@ -70,6 +70,6 @@ fn exec<H: Heap>(
         Instr::Invoke(name, n) => invoke(program, heap, frames, height, name, n),
         Instr::Return => { return_value(program, heap, frames, method.result, method.params.count) }
         Instr::Throw => throw(program, heap, frames, height),
-        _ => frames.local(bounds, instr),
+        _ => frames.local(heap, bounds, instr),
     }
 }

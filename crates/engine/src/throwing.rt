@@ -1,5 +1,5 @@
 // A thrown object: the frame that catches it goes on at its handler, and those above are gone.
-ghost use Rattle.std.specs.Prelude.{◌≡◌, ◌+◌, ◌<◌, true, length, take};
+ghost use Rattle.std.specs.Prelude.{◌≡◌, ◌+◌, ◌<◌, true, length, take, is_some};
 ghost use Rattle.stack.specs.Stacked.{held};
 ghost use Rattle.heap.specs.Meaning.{Meaning};
 ghost use Rattle.jinja.specs.Step.{unwind};
@@ -23,19 +23,17 @@ pub(crate) fn unwind(program: Program, frames: &mut Frames, a: u16, c: ClassNumb
     let Some((k, handler)) = find(program, &frames.frames, frames.count, c)? else {
         return Some(Next::Threw(a));
     };
-    if !lands_at(program, &frames.frames, k, handler) {
-        return None;
-    }
+    lands_at(program, &frames.frames, k, handler)?;
     land_at(&mut frames.frames, k, handler, a);
     frames.count = k + 1;
     Some(Next::Goes)
 }
 
 // Whether the frame at `k` can use its handler.
-fn lands_at(program: Program, frames: &[Frame], k: usize, handler: Handler) -> bool
+fn lands_at(program: Program, frames: &[Frame], k: usize, handler: Handler) -> Option<()>
     requires within { k < length frames.now }
     ensures lands { LandsAt (meaning_of program.entry) handler frames.now k result }
-    ensures low { result ≡ true → handler.depth < cell_limit }
+    ensures low { is_some result ≡ true → handler.depth < cell_limit }
 {
     lands(program, &frames[k], handler)
 }
@@ -55,19 +53,22 @@ fn land_at(frames: &mut [Frame], k: usize, handler: Handler, a: u16)
 }
 
 // Whether a handler of the frame can be used: its cells are there, and there is room for the object and a target.
-pub(crate) fn lands(program: Program, frame: &Frame, handler: Handler) -> bool
+pub(crate) fn lands(program: Program, frame: &Frame, handler: Handler) -> Option<()>
     ensures lands { Lands (meaning_of program.entry) handler (frame_of frame.now) (held frame.now.cells handler.depth) result }
-    ensures low { result ≡ true → handler.depth < cell_limit }
+    ensures low { is_some result ≡ true → handler.depth < cell_limit }
 {
-    let Some(method) = program.tables.method(frame.method) else {
-        return false;
-    };
+    let method = program.tables.method(frame.method)?;
     let depth = handler.depth as usize;
     if depth > frame.height {
-        return false;
+        return None;
     }
     if depth >= method.height as usize {
-        return false;
+        return None;
     }
-    (handler.target as usize) < program.tables.code_of(frame.method).len()
+    let target = handler.target as usize;
+    let size = program.tables.code_of(frame.method).len();
+    if target >= size {
+        return None;
+    }
+    Some(())
 }
