@@ -1,11 +1,11 @@
 -- What the walk keeps from edge to edge. Assumes nothing.
-use Rattle.std.proofs.Common.{◌≡◌, ℕ, ◌+◌, ◌<◌, ◌≤◌, true, false, ◌⊎◌, sym, ◌∙◌, subst, ⊎_elim, arith}
+use Rattle.std.proofs.Common.{◌≡◌, ℕ, ◌+◌, ◌<◌, false, sym, ◌∙◌, subst, ⊎_elim, arith}
 use Rattle.std.proofs.lemmas.Bool.{cases_eq}
 use Rattle.walk.specs.Flow.{nothing, sent}
 use Rattle.walk.specs.Framework.{Framework, nodes}
 use Rattle.walk.specs.Solution.{Table}
-use Rattle.walk.specs.Walking.{Nodes, Raised, Held, Settled, Inside, Midway, NodeDone}
-use Rattle.walk.proofs.Theory.{step_inside, step_good, held_step, settled_step, settled_quiet, settled_end}
+use Rattle.walk.specs.Walking.{Nodes, Raised, Held, Settled, Inside, Midway}
+use Rattle.walk.proofs.Theory.{step_inside, step_good, held_step, settled_step, settled_quiet}
 use Rattle.walk.proofs.Weight.{weight_raised}
 
 module _ (m : Framework) where
@@ -33,12 +33,3 @@ module _ (m : Framework) where
         inside = λ j p. ⊎_elim (λ (q : j ≡ k). subst (λ (n : ℕ). n < nodes m) (sym q) edge_inside) (λ (q : j ≡ k → ⊥). inside j (sym (raised.others j q) ∙ p)) (cases_eq j k);
         less = weight_raised m edge_inside (goods k edge_inside) (step_good m goods node fine edge sends) raised;
       }
-
-  pub midway_on : {i e f : ℕ} {T₀ T T' : Table m} {d₀ d d' : Nodes} → Midway m i e T₀ d₀ T d → Midway m i f T d T' d' → Midway m i f T₀ d₀ T' d'
-  midway_on a b =
-      let p = a.less in
-      let q = b.less in
-      record { held = b.held; settled = b.settled; inside = b.inside; less = omega arith }
-
-  pub midway_done : {i e : ℕ} {T₀ T : Table m} {d₀ d : Nodes} → Midway m i e T₀ d₀ T d → (d i ≡ true) ⊎ (m.flow.edges i ≤ e) → NodeDone m T₀ d₀ T d
-  midway_done {i} {e} {T₀} {T} {d₀} {d} a done = record { held = a.held; settled = settled_end m d i e done a.settled; inside = a.inside; less = a.less }

@@ -1,10 +1,10 @@
 -- The steps of a walk to the least solution. Assumes nothing.
-use Rattle.std.proofs.Common.{◌≡◌, ℕ, ◌+◌, ◌<◌, ◌≤◌, true, false, ◌⊎◌, sym, ap, ◌∙◌, subst, ⊎_elim, arith}
+use Rattle.std.proofs.Common.{◌≡◌, ℕ, ◌+◌, ◌<◌, true, false, sym, ap, ◌∙◌, subst, ⊎_elim, arith}
 use Rattle.std.proofs.lemmas.Bool.{cases_eq, both_ways}
 use Rattle.walk.specs.Lattice.{Le}
 use Rattle.walk.specs.Flow.{Sent, nothing, sent, Below, Lawful}
 use Rattle.walk.specs.Framework.{Framework, nodes}
-use Rattle.walk.specs.Solution.{Table, Lands, nothing_lands, row_lands, Least, Unsolvable}
+use Rattle.walk.specs.Solution.{Table, Lands, nothing_lands, row_lands, Unsolvable}
 use Rattle.walk.specs.Walking.{Nodes, Begun, Raised, Held, Settled, AllSettled, Inside}
 use Rattle.walk.proofs.Order.{le_trans, join_left, join_right, join_least, lands_up, below_lands, sent_inside, sent_good}
 
@@ -134,41 +134,7 @@ module _ (m : Framework) where
             (cases_eq j i),
       )
 
-  -- a node is begun: it takes its row, is no longer marked, and none of its edges is settled
-  pub settled_begin : {T : Table m} (d d' : Nodes) (i : ℕ) → m.flow.refused i (T i) ≡ false → ((j : ℕ) → (j ≡ i → ⊥) → d' j ≡ d j) → AllSettled m d T → Settled m d' i 0 T
-  settled_begin {T} d d' i fine keeps settled j j_in clean =
-      ⊎_elim
-      (λ (p : j ≡ i). (subst (λ (n : ℕ). m.flow.refused n (T n) ≡ false) (sym p) fine, λ f f_in upto. absurd (let h = upto p in omega arith)))
-      (λ (p : j ≡ i → ⊥). let s = settled j j_in (sym (keeps j p) ∙ clean) in (s.0, λ f f_in upto. s.1 f f_in tt))
-      (cases_eq j i)
-
-  pub inside_begin : (d d' : Nodes) (i : ℕ) → d' i ≡ false → ((j : ℕ) → (j ≡ i → ⊥) → d' j ≡ d j) → Inside m d → Inside m d'
-  inside_begin d d' i off keeps inside j on =
-      ⊎_elim
-      (λ (p : j ≡ i). absurd (both_ways (d' j) (ap d' p ∙ off) on))
-      (λ (p : j ≡ i → ⊥). inside j (sym (keeps j p) ∙ on))
-      (cases_eq j i)
-
-  -- a node is done, or is marked again
-  pub settled_end : {T : Table m} (d : Nodes) (i e : ℕ) → (d i ≡ true) ⊎ (m.flow.edges i ≤ e) → Settled m d i e T → AllSettled m d T
-  settled_end d i e done settled j j_in clean =
-      let s = settled j j_in clean in (
-        s.0,
-        λ f f_in _. s.1 f f_in (λ p.
-            ⊎_elim
-            (λ (q : d i ≡ true). absurd (both_ways (d i) (subst (λ (n : ℕ). d n ≡ false) p clean) q))
-            (λ (q : m.flow.edges i ≤ e). let h : f < m.flow.edges i = subst (λ (n : ℕ). f < m.flow.edges n) p f_in in omega arith)
-            done),
-      )
-
   -- a row that its node refuses: there is no solution
   pub unsolvable_from : {T : Table m} → Held m T → (k : ℕ) → k < nodes m → m.flow.refused k (T k) ≡ true → Unsolvable m
   unsolvable_from {T} held k l e U sol =
       both_ways (m.flow.refused k (T k)) (m.monotone.taken k (T k) (U k) l (held.goods k l) (sol.goods k l) (held.under U sol k l) (sol.taken k l)) e
-
-  -- no node is marked: the table is the least solution
-  pub least_from : {T : Table m} (d : Nodes) → Held m T → AllSettled m d T → ((j : ℕ) → d j ≡ false) → Least m T
-  least_from d held settled none = record {
-    solution = record { goods = held.goods; start = held.start; taken = λ i l. (settled i l (none i)).0; lands = λ i e l f. (settled i l (none i)).1 e f tt };
-    least = held.under;
-  }

@@ -38,10 +38,6 @@ module _ (xs : List ℕ) (k : ℕ) (r : List ℕ) (room : k * width + width ≤ 
   row_rest n l h = drop-put_mid (k * width) size xs r (n * width) (omega arith) (omega arith) (omega arith)
 
 module _ (m : Framework) (xs : List ℕ) (k : ℕ) (node : k < nodes m) (room : Room m xs) where
-  -- the part that is read shows a row, and is the row of node k
-  pub part_shown : Shown m xs → m.shows (take ((k * width + width) - k * width) (drop (k * width) xs))
-  part_shown shown = subst m.shows (sym (part_row k xs)) (shown k node)
-
   module _ (r : List ℕ) (long : length r ≡ width) where
     pub row_written : (x : m.Row) → m.shows r → m.read r ≡ x → Written m k x xs (written xs k r)
     row_written x shows means =
