@@ -9,7 +9,9 @@ use Rattle.type_rows.specs.declared.leads.Leads.{Leads}
 use Rattle.type_rows.specs.declared.method.Method.{Method}
 use Rattle.type_rows.specs.Leading.{told}
 use Rattle.type_rows.specs.Numbers.{width, Small, types_in, cells_in, stack_part, register_part}
+use Rattle.type_rows.specs.declared.frame.TypeFrame.{TypeFrame}
 use Rattle.type_rows.specs.Stepping.{program, owned}
+use Rattle.type_rows.specs.TypeFrames.{frame_types, frame_cells}
 
 -- the stack and the registers of a row of numbers that is reached
 abbrev pub row_types : List ℕ → List Ty
@@ -25,6 +27,6 @@ pub record Reached (xs : List ℕ) : Type 0 where
   pub above : 0 < slice_index xs 0
   pub low : slice_index_or xs 0 0 ≤ suc max_height
 
--- what the instruction sends from one row, by where it leads and the other row
-abbrev pub RowSteps : Method → Instr → ℕ → List ℕ → Option Leads → List ℕ → Type 0
-RowSteps m i pc xs r ys = transfer (program m) (owned m) i pc (row_types xs) (row_cells m.registers xs) ≡ told r pc (row_types ys) (row_cells m.registers ys)
+-- what the instruction sends from a frame, by where it leads and the row that it writes
+abbrev pub RowSteps : Method → Instr → ℕ → TypeFrame → Option Leads → List ℕ → Type 0
+RowSteps m i pc f r ys = transfer (program m) (owned m) i pc (frame_types f) (frame_cells m.registers f) ≡ told r pc (row_types ys) (row_cells m.registers ys)

@@ -1,7 +1,8 @@
-// One instruction from one row of numbers to another.
+// One instruction from a frame to a row of numbers.
 ghost use Rattle.std.specs.Prelude.{◌≡◌, OnSome};
 ghost use Rattle.type_rows.specs.Registers.{Told};
-ghost use Rattle.type_rows.specs.RowSteps.{row_types, Reached, RowSteps};
+ghost use Rattle.type_rows.specs.RowSteps.{Reached, RowSteps};
+ghost use Rattle.type_rows.specs.TypeFrames.{frame_types};
 
 use crate::frame::TypeFrame;
 use crate::leads::Leads;
@@ -10,16 +11,20 @@ use crate::site::Site;
 use walk::WIDTH;
 
 impl<'a> Method<'a> {
-    // The instruction from a row that is reached: where it leads, and in `out` the row that the successors get.
-    pub(crate) fn apply(&self, site: Site, row: &[u16], out: &mut [u16; WIDTH]) -> Option<Leads>
-        requires reached { Reached row.now }
-        requires told { Told (row_types row.now) }
-        ensures sends { RowSteps self.now site.instr site.pc row.now result out.new }
+    // The instruction over a frame: where it leads, and in `out` the row that the successors get.
+    pub(crate) fn apply(
+        &self,
+        site: Site,
+        frame: TypeFrame,
+        out: &mut [u16; WIDTH],
+    ) -> Option<Leads>
+        requires { Told (frame_types frame) }
+        ensures sends { RowSteps self.now site.instr site.pc frame result out.new }
         ensures reached { OnSome result (Reached out.new) }
     {
-        let mut frame = TypeFrame::of(row);
-        let leads = self.step(site, &mut frame)?;
-        frame.write(out);
+        let mut next = frame;
+        let leads = self.step(site, &mut next)?;
+        next.write(out);
         Some(leads)
     }
 }

@@ -12,7 +12,9 @@ ghost use Rattle.type_rows.specs.RowSteps.{row_types, row_cells, Reached};
 ghost use Rattle.type_rows.specs.Sending.{sent_to};
 ghost use Rattle.type_rows.specs.Stepping.{program, owned};
 ghost use Rattle.type_rows.specs.Taking.{Suits};
+ghost use Rattle.type_rows.specs.TypeFrames.{frame_types, frame_cells};
 
+use crate::frame::TypeFrame;
 use crate::method::Method;
 use crate::row::Shown;
 use crate::site::Site;
@@ -32,23 +34,22 @@ impl<'a> Method<'a> {
         &self,
         site: Site,
         e: usize,
-        row: &[u16],
+        frame: TypeFrame,
         out: &mut [u16; WIDTH],
     ) -> Option<usize>
-        requires reached { Reached row.now }
-        requires told { Told (row_types row.now) }
-        requires suits { (j : ℕ) (x : handler.Handler) → slice_get (owned self.now).method.handlers j ≡ Some x → is_relevant (program self.now) site.instr site.pc x ≡ true → Suits (program self.now) (owned self.now) (row_types row.now) x }
-        ensures sends { flow.edge_of (program self.now) (owned self.now) site.instr site.pc e (row_types row.now) (row_cells self.now.registers row.now) ≡ sent_to result (row_types out.new) (row_cells self.now.registers out.new) }
+        requires told { Told (frame_types frame) }
+        requires suits { (j : ℕ) (x : handler.Handler) → slice_get (owned self.now).method.handlers j ≡ Some x → is_relevant (program self.now) site.instr site.pc x ≡ true → Suits (program self.now) (owned self.now) (frame_types frame) x }
+        ensures sends { flow.edge_of (program self.now) (owned self.now) site.instr site.pc e (frame_types frame) (frame_cells self.now.registers frame) ≡ sent_to result (row_types out.new) (row_cells self.now.registers out.new) }
         ensures reached { OnSome result (Reached out.new) }
     {
         if e == 1 && !branches(site.instr) {
             return None;
         }
         if e < 2 {
-            return self.send_next(site, e, row, out);
+            return self.send_next(site, e, frame, out);
         }
         let handler = *self.handlers().get(e - 2)?;
-        self.send_to_handler(site, handler, row, out)
+        self.send_to_handler(site, handler, frame, out)
     }
 
     // Writes what edge `e` of the instruction at `pc` sends from the row, and answers where to; `None` where it sends
@@ -72,7 +73,7 @@ impl<'a> Method<'a> {
             Shown::Clash => None,
             Shown::Reached(_) => {
                 let site = self.site(pc)?;
-                self.send_reached(site, e, row, out)
+                self.send_reached(site, e, TypeFrame::read(row), out)
             }
         }
     }

@@ -33,7 +33,7 @@ impl TypeFrame {
     ghost use Rattle.type_rows.specs.TypeFrames.{frame_types, frame_cells};
 
     /// The frame of a row that is reached.
-    pub(crate) fn of(row: &[u16]) -> TypeFrame
+    pub(crate) fn read(row: &[u16]) -> TypeFrame
         requires { Reached row.now }
         ensures types { frame_types result ≡ row_types row.now }
         ensures registers { (n : ℕ) → frame_cells n result ≡ row_cells n row.now }
@@ -56,6 +56,13 @@ impl TypeFrame {
         ensures reached { Reached out.new }
     {
         write_row(out, self.height as u16, &self.cells, &self.registers);
+    }
+
+    /// How many types the stack holds.
+    pub(crate) fn height(&self) -> usize
+        ensures { result ≡ length (frame_types self.now) }
+    {
+        self.height
     }
 
     /// Takes the topmost type.

@@ -5,6 +5,7 @@ ghost use Rattle.type_rows.specs.MethodFlow as flow;
 ghost use Rattle.type_rows.specs.Numbers.{Shows, read_row};
 ghost use Rattle.type_rows.specs.Stepping.{program, owned};
 
+use crate::frame::TypeFrame;
 use crate::method::Method;
 use crate::row::Shown;
 
@@ -19,7 +20,7 @@ impl<'a> Method<'a> {
             Shown::Unreached => false,
             Shown::Clash => true,
             Shown::Reached(_) => match self.site(pc) {
-                Some(site) => self.refuses_reached(site, row),
+                Some(site) => self.refuses_reached(site, TypeFrame::read(row)),
                 None => true,
             },
         }

@@ -13,8 +13,10 @@ ghost use Rattle.type_rows.specs.RowSteps.{row_types, row_cells, Reached};
 ghost use Rattle.type_rows.specs.Sending.{sent_to};
 ghost use Rattle.type_rows.specs.Stepping.{program, owned};
 ghost use Rattle.type_rows.specs.Taking.{Suits};
+ghost use Rattle.type_rows.specs.TypeFrames.{frame_types, frame_cells};
 
 use crate::catch::catch;
+use crate::frame::TypeFrame;
 use crate::leads::Leads;
 use crate::method::Method;
 use crate::site::Site;
@@ -27,15 +29,14 @@ impl<'a> Method<'a> {
         &self,
         site: Site,
         e: usize,
-        row: &[u16],
+        frame: TypeFrame,
         out: &mut [u16; WIDTH],
     ) -> Option<usize>
-        requires reached { Reached row.now }
-        requires told { Told (row_types row.now) }
-        ensures sends { maybe (transfer (program self.now) (owned self.now) site.instr site.pc (row_types row.now) (row_cells self.now.registers row.now)) nothing (λ es. sent_at es e) ≡ sent_to result (row_types out.new) (row_cells self.now.registers out.new) }
+        requires { Told (frame_types frame) }
+        ensures sends { maybe (transfer (program self.now) (owned self.now) site.instr site.pc (frame_types frame) (frame_cells self.now.registers frame)) nothing (λ es. sent_at es e) ≡ sent_to result (row_types out.new) (row_cells self.now.registers out.new) }
         ensures reached { OnSome result (Reached out.new) }
     {
-        let to = self.apply(site, row, out)?;
+        let to = self.apply(site, frame, out)?;
         place_of(to, site, e)
     }
 
@@ -44,18 +45,17 @@ impl<'a> Method<'a> {
         &self,
         site: Site,
         handler: Handler,
-        row: &[u16],
+        frame: TypeFrame,
         out: &mut [u16; WIDTH],
     ) -> Option<usize>
-        requires reached { Reached row.now }
-        requires suits { is_relevant (program self.now) site.instr site.pc handler ≡ true → Suits (program self.now) (owned self.now) (row_types row.now) handler }
-        ensures sends { to_handler (program self.now) handler site.instr site.pc (row_types row.now) (row_cells self.now.registers row.now) ≡ sent_to result (row_types out.new) (row_cells self.now.registers out.new) }
+        requires { is_relevant (program self.now) site.instr site.pc handler ≡ true → Suits (program self.now) (owned self.now) (frame_types frame) handler }
+        ensures sends { to_handler (program self.now) handler site.instr site.pc (frame_types frame) (frame_cells self.now.registers frame) ≡ sent_to result (row_types out.new) (row_cells self.now.registers out.new) }
         ensures reached { OnSome result (Reached out.new) }
     {
         if !self.is_relevant(site, handler) {
             return None;
         }
-        catch(row, handler.depth as usize, handler.class, out);
+        catch(frame, handler.depth as usize, handler.class, out);
         Some(handler.target as usize)
     }
 }

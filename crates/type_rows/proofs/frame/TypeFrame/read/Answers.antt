@@ -2,7 +2,7 @@
 use Rattle.std.proofs.Common.{drop, arith}
 use Rattle.type_rows.proofs.Cells.{small_same}
 use Rattle.type_rows.proofs.RowParts.{small_take, small_drop}
-use Rattle.type_rows.proofs.frame.TypeFrame.of.Goals as goal
+use Rattle.type_rows.proofs.frame.TypeFrame.read.Goals as goal
 
 pub invariant_of-result : goal.invariant_of-result
 invariant_of-result c =
