@@ -83,7 +83,6 @@ impl Frames {
     }
 
     // A frame of the method `k` on top, for this object and the `n` topmost operands, where there is room.
-    #[inline]
     fn enter(&mut self, k: usize, this: u16, n: usize, extras: usize) -> Option<Next>
         requires ready { Ready self.old }
         requires high { n ≤ length (top_stack (frames_of self.old)) }

@@ -55,7 +55,6 @@ fn value_at<H: Heap>(heap: &H, a: u16, i: usize) -> Option<Value>
 }
 
 // The value of the field that the class `c` declares, of the object at an address.
-#[inline]
 pub(crate) fn field_value<H: Heap>(
     tables: &Tables,
     heap: &H,

@@ -70,7 +70,6 @@ pub(crate) fn checkcast<H: Heap>(
 }
 
 // The object at `a`, on top, is cast to `c`.
-#[inline]
 fn cast<H: Heap>(
     program: Program,
     heap: &H,

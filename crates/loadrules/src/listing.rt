@@ -64,7 +64,9 @@ fn write_method<W: fmt::Write>(
     write_list(
         f,
         ", ",
-        method.params.of(t.params.as_slice())
+        method
+            .params
+            .of(t.params.as_slice())
             .iter()
             .map(|ty| TypeWord(*ty)),
     )?;
