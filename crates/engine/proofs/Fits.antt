@@ -1,6 +1,6 @@
 -- Whether values fit types, by the kind of a value, and value by value. Assumes nothing.
 use Rattle.std.proofs.Common.{◌≡◌, ℕ, Bool, true, false, ◌&&◌, List, [], ◌∷◌, length, ℤ, Some, None, refl, arith}
-use Rattle.std.proofs.lemmas.Bool.{and_parts}
+use Rattle.std.proofs.lemmas.Bool.{and_parts, false≢true}
 use Rattle.heap.specs.declared.value.Value.{Value}
 use Rattle.heap.specs.declared.value.Value.TheVariants as value
 use Rattle.heap.specs.declared.charge.ChargeLine.{ChargeLine}
@@ -12,7 +12,6 @@ use Rattle.jinja.specs.Program.{Program}
 use Rattle.jinja.specs.Types.{same_type}
 use Rattle.jinja.specs.Transfer.{class_le, null_le}
 use Rattle.jinja.specs.Values.{class_of, fits, fit_all}
-use Rattle.jinja.proofs.Options.{false_true}
 
 module _ (P : Program) (h : Meaning) {v : Value} (t : Ty) (r : Bool) where
   pub unit_fits : v ≡ value.Unit → r ≡ same_type Void t → r ≡ fits P h v t
@@ -56,8 +55,8 @@ nothing_there P ls t e = nothing_fits P (vacant ls) t e refl
 module _ (P : Program) (h : Meaning) where
   pub fit_length : (vs : List Value) (ts : List Ty) → fit_all P h vs ts ≡ true → length vs ≡ length ts
   fit_length [] [] e = refl
-  fit_length [] (t ∷ ts) e = absurd (false_true e)
-  fit_length (v ∷ vs) [] e = absurd (false_true e)
+  fit_length [] (t ∷ ts) e = absurd (false≢true e)
+  fit_length (v ∷ vs) [] e = absurd (false≢true e)
   fit_length (v ∷ vs) (t ∷ ts) e = let l = fit_length vs ts (and_parts (fits P h v t) (fit_all P h vs ts) e).1 in omega arith
 
   pub fit_uneven : (vs : List Value) (ts : List Ty) → (length vs ≡ length ts → ⊥) → false ≡ fit_all P h vs ts

@@ -1,6 +1,6 @@
 -- The function that runs follows the rules, and the other way round. Assumes nothing.
 use Rattle.std.proofs.Common.{◌≡◌, ℕ, suc, Bool, true, false, cond, ◌&&◌, ◌||◌, ltb, leb, List, [], ◌∷◌, ◌++◌, length, Some, None, Option, sym, refl, ap, ◌∙◌, subst, ⊎_elim}
-use Rattle.std.proofs.lemmas.Bool.{lt-ltb, le-leb, eq-eqb, ltb-true, leb-true, and_parts, and_from, or_cases, or_right}
+use Rattle.std.proofs.lemmas.Bool.{lt-ltb, le-leb, eq-eqb, ltb-true, leb-true, and_parts, and_from, or_cases, or_right, false≢true}
 use Rattle.jinja.specs.declared.ty.Ty.{Ty}
 use Rattle.jinja.specs.declared.ty.Ty.TheVariants.{Void, Boolean, Integer, NullType, Class}
 use Rattle.jinja.specs.declared.instr.Instr.{Instr}
@@ -19,7 +19,7 @@ use Rattle.jinja.specs.Handlers.{MayThrow, by_throw, by_invoke, by_getfield, by_
 use Rattle.jinja.specs.WellTyping.{Flows, FlowAll, no_more, flow, Caught, Typed}
 use Rattle.jinja.specs.Join.{is_reference}
 use Rattle.jinja.specs.Transfer.{type_le, types_le, cell_type, send_call, transfer, may_throw, is_relevant, send_handler, send_handlers, sends}
-use Rattle.jinja.proofs.Options.{conflict, some_inj, false_true}
+use Rattle.jinja.proofs.Options.{conflict, some_inj}
 use Rattle.jinja.proofs.Climbs.{below_tested, below_found}
 use Rattle.jinja.proofs.Inheritance.{same_type_is}
 
@@ -33,9 +33,9 @@ tested true o e = (refl, e)
 tested false o e = absurd (conflict e)
 
 pub reference_found : (t : Ty) → is_reference t ≡ true → Reference t
-reference_found Void e = absurd (false_true e)
-reference_found Boolean e = absurd (false_true e)
-reference_found Integer e = absurd (false_true e)
+reference_found Void e = absurd (false≢true e)
+reference_found Boolean e = absurd (false≢true e)
+reference_found Integer e = absurd (false≢true e)
 reference_found NullType e = null_reference
 reference_found (Class c) e = class_reference
 
@@ -52,15 +52,15 @@ module _ {P : Program} (w : WellFormed P) where
   le_found Void u e = subst (Le P Void) (same_type_is Void u e) void
   le_found Boolean u e = subst (Le P Boolean) (same_type_is Boolean u e) boolean
   le_found Integer u e = subst (Le P Integer) (same_type_is Integer u e) integer
-  le_found NullType Void e = absurd (false_true e)
-  le_found NullType Boolean e = absurd (false_true e)
-  le_found NullType Integer e = absurd (false_true e)
+  le_found NullType Void e = absurd (false≢true e)
+  le_found NullType Boolean e = absurd (false≢true e)
+  le_found NullType Integer e = absurd (false≢true e)
   le_found NullType NullType e = null
   le_found NullType (Class c) e = null_class (ltb-true _ _ e)
-  le_found (Class c) Void e = absurd (false_true e)
-  le_found (Class c) Boolean e = absurd (false_true e)
-  le_found (Class c) Integer e = absurd (false_true e)
-  le_found (Class c) NullType e = absurd (false_true e)
+  le_found (Class c) Void e = absurd (false≢true e)
+  le_found (Class c) Boolean e = absurd (false≢true e)
+  le_found (Class c) Integer e = absurd (false≢true e)
+  le_found (Class c) NullType e = absurd (false≢true e)
   le_found (Class c) (Class d) e = subclass (below_found w e)
 
   pub le_tested : {t u : Ty} → Le P t u → type_le P t u ≡ true
@@ -73,8 +73,8 @@ module _ {P : Program} (w : WellFormed P) where
 
   all_found : (ts us : List Ty) → types_le P ts us ≡ true → LeAll P ts us
   all_found [] [] e = nil
-  all_found [] (u ∷ us) e = absurd (false_true e)
-  all_found (t ∷ ts) [] e = absurd (false_true e)
+  all_found [] (u ∷ us) e = absurd (false≢true e)
+  all_found (t ∷ ts) [] e = absurd (false≢true e)
   all_found (t ∷ ts) (u ∷ us) e = let p = and_parts (type_le P t u) (types_le P ts us) e in cons (le_found t u p.0) (all_found ts us p.1)
 
   all_tested : {ts us : List Ty} → LeAll P ts us → types_le P ts us ≡ true
@@ -198,15 +198,15 @@ module _ {P : Program} (w : WellFormed P) where
   may_throw_found (Checkcast d) e = by_checkcast (below_found w e)
   may_throw_found (Invoke m n) e = by_invoke
   may_throw_found Throw e = by_throw
-  may_throw_found (Load n) e = absurd (false_true e)
-  may_throw_found (Store n) e = absurd (false_true e)
-  may_throw_found (Push v) e = absurd (false_true e)
-  may_throw_found Pop e = absurd (false_true e)
-  may_throw_found Return e = absurd (false_true e)
-  may_throw_found IAdd e = absurd (false_true e)
-  may_throw_found CmpEq e = absurd (false_true e)
-  may_throw_found (IfFalse z) e = absurd (false_true e)
-  may_throw_found (Goto z) e = absurd (false_true e)
+  may_throw_found (Load n) e = absurd (false≢true e)
+  may_throw_found (Store n) e = absurd (false≢true e)
+  may_throw_found (Push v) e = absurd (false≢true e)
+  may_throw_found Pop e = absurd (false≢true e)
+  may_throw_found Return e = absurd (false≢true e)
+  may_throw_found IAdd e = absurd (false≢true e)
+  may_throw_found CmpEq e = absurd (false≢true e)
+  may_throw_found (IfFalse z) e = absurd (false≢true e)
+  may_throw_found (Goto z) e = absurd (false≢true e)
 
   relevant_tested : {i : Instr} {pc : ℕ} {x : Handler} → Relevant P i pc x → is_relevant P i pc x ≡ true
   unfolding is_relevant
@@ -257,7 +257,7 @@ module _ {P : Program} (w : WellFormed P) where
             let g = passed _ _ f.1 in
             let n : FlowAll P M rows (edge x.target (Class x.class ∷ lowest x.depth st) lt ∷ g.0) = subst (FlowAll P M rows) (sym (some_inj g.2)) a in
             (g.0, g.1, flows_rest n, λ t. record { exists = ltb-true _ _ b.0; deep = leb-true _ _ d.0; room = ltb-true _ _ f.0; flows = flows_first n })
-        go false e = (es, e, a, λ t. absurd (false_true t))
+        go false e = (es, e, a, λ t. absurd (false≢true t))
 
     handlers_found : {x : Handler} {xs : List Handler} (es : List Edge) → In x xs → Relevant P i pc x → send_handlers P M xs i pc st lt ≡ Some es → FlowAll P M rows es → Caught P M rows st lt x
     handlers_found {x} es (first {xs = xs}) r e a = (handler_found x (send_handlers P M xs i pc st lt) e a).3 (relevant_tested r)

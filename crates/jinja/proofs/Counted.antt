@@ -1,7 +1,7 @@
 -- The heap holds the objects made, and each line's use is their cost. Assumes nothing.
 use Rattle.std.proofs.Common.{◌≡◌, ℕ, zero, suc, ◌+◌, ◌≤◌, true, ◌&&◌, leb, List, [], ◌∷◌, ◌++◌, length, set, Some, sym, refl, ap, ◌∙◌, subst, arith}
 use Rattle.std.specs.List.{slice_get}
-use Rattle.std.proofs.lemmas.List.{length-set}
+use Rattle.std.proofs.lemmas.List.{length-set, length-map}
 use Rattle.std.proofs.lemmas.List.Sums.{sum_by-cons, sum_by_push}
 use Rattle.std.proofs.lemmas.Bool.{le-leb, leb-true, and_parts}
 use Rattle.heap.specs.declared.value.Value.{Value}
@@ -14,7 +14,7 @@ use Rattle.jinja.specs.WellFormed.{WellFormed}
 use Rattle.jinja.specs.Order.{Pairwise, nil, cons}
 use Rattle.jinja.specs.Values.{start_row}
 use Rattle.jinja.specs.History.{cost_of_made, has_room_for}
-use Rattle.jinja.proofs.Options.{conflict, some_inj, map_length}
+use Rattle.jinja.proofs.Options.{conflict, some_inj}
 use Rattle.jinja.proofs.Objects.{with_value_is}
 
 -- an object of the class, with a value for each field
@@ -28,7 +28,7 @@ pub record Counted (P : Program) (ls : List ChargeLine) (h : Meaning) (cs : List
   pub within : (i : ℕ) (l : ChargeLine) → slice_get ls i ≡ Some l → used l h.objects ≤ l.total
 
 start_row_long : (P : Program) (c : ℕ) → length (start_row P c) ≡ length (fields_of P c)
-start_row_long P c = map_length _ (fields_of P c)
+start_row_long P c = length-map (fields_of P c) _
 
 room_within : (ls : List ChargeLine) (os : List Object) (n i : ℕ) {l : ChargeLine} → has_room ls os n ≡ true → slice_get ls i ≡ Some l → used l os + cost l n ≤ l.total
 room_within [] os n i e q = absurd (conflict q)

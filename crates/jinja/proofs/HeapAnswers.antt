@@ -1,7 +1,7 @@
 -- What a heap's calls answer, as look-ups in its objects. Assumes nothing.
 use Rattle.std.proofs.Common.{◌≡◌, ℕ, false, cond, ◌&&◌, ltb, List, length, get_or, Some, None, Ok, Err, Option, sym, refl, ap, ◌∙◌, ⊎_elim}
 use Rattle.std.specs.List.{slice_get}
-use Rattle.std.proofs.lemmas.Option.{slice_get-get_or, slice_get_past}
+use Rattle.std.proofs.lemmas.Option.{slice_get-get_or, slice_get_past, slice_get_within}
 use Rattle.std.proofs.lemmas.Bool.{lt-ltb, le-ltb, cases_lt}
 use Rattle.heap.specs.declared.fault.HeapFault.TheVariants.{NoObject}
 use Rattle.heap.specs.declared.value.Value.{Value}
@@ -12,7 +12,7 @@ use Rattle.jinja.specs.Options.{◌>>=◌}
 use Rattle.jinja.specs.Classes.{maybe}
 use Rattle.jinja.specs.Values.{class_of}
 use Rattle.jinja.specs.HeapLaws.{field_at, HeapLawsHold}
-use Rattle.jinja.proofs.Options.{conflict, nth_below}
+use Rattle.jinja.proofs.Options.{conflict}
 use Rattle.jinja.proofs.Bridge.{passed}
 use Rattle.jinja.proofs.Objects.{object_is}
 
@@ -34,7 +34,7 @@ class_is h a = at_place h.objects a no_object (λ o. Ok o.class) (Err NoObject) 
 
 -- a field is there where its object is and has the place
 has_field_is : {o : Object} (h : Meaning) (a i : ℕ) → slice_get h.objects a ≡ Some o → has_field h a i ≡ ltb i (length o.row)
-has_field_is h a i e = ap (λ t. t && ltb i (length (object_at h a).row)) (lt-ltb _ _ (nth_below h.objects a e)) ∙ ap (λ (o : Object). ltb i (length o.row)) (object_is h a e)
+has_field_is h a i e = ap (λ t. t && ltb i (length (object_at h a).row)) (lt-ltb _ _ (slice_get_within h.objects a _ e)) ∙ ap (λ (o : Object). ltb i (length o.row)) (object_is h a e)
 
 field_is : (h : Meaning) (a i : ℕ) → read_answer h a i ≡ maybe (field_at h a i) (Err NoObject) (λ v. Ok v)
 field_is h a i = go (slice_get h.objects a) refl
@@ -52,7 +52,7 @@ field_is h a i = go (slice_get h.objects a) refl
 written : {w : Value} (h : Meaning) (a i : ℕ) (v : Value) → field_at h a i ≡ Some w → after_write h a i v ≡ with_value h a i v
 written h a i v e =
     let o = passed (slice_get h.objects a) (λ o. slice_get o.row i) e in
-    ap (λ t. cond t (with_value h a i v) h) (has_field_is h a i o.1 ∙ lt-ltb _ _ (nth_below o.0.row i o.2))
+    ap (λ t. cond t (with_value h a i v) h) (has_field_is h a i o.1 ∙ lt-ltb _ _ (slice_get_within o.0.row i _ o.2))
 
 pub heap_laws : HeapLawsHold
 heap_laws h = record { class_is = class_is h; field_is = field_is h; written = written h }

@@ -1,8 +1,8 @@
 -- A class has the fields and sees the methods of the classes above it. Assumes nothing.
 use Rattle.std.proofs.Common.{◌≡◌, ℕ, zero, suc, ◌+◌, ◌≤◌, Bool, true, false, cond, eqb, List, [], ◌∷◌, ◌++◌, map, length, take, Some, None, Option, sym, refl, ap, ◌∙◌, subst, ⊎_elim, add-zero, zero-add, arith}
 use Rattle.std.specs.List.{slice_get}
-use Rattle.std.proofs.lemmas.Option.{slice_get_past}
-use Rattle.std.proofs.lemmas.Bool.{cases_lt, eqb-true, eq-eqb, and_parts, and_from}
+use Rattle.std.proofs.lemmas.Option.{slice_get_past, slice_get_within}
+use Rattle.std.proofs.lemmas.Bool.{cases_lt, eqb-true, eq-eqb, and_parts, and_from, false≢true}
 use Rattle.jinja.specs.declared.ty.Ty.{Ty}
 use Rattle.jinja.specs.declared.ty.Ty.TheVariants.{Void, Boolean, Integer, NullType, Class}
 use Rattle.jinja.specs.declared.program.Field.{Field}
@@ -13,8 +13,9 @@ use Rattle.jinja.specs.Classes.{maybe, table, class_at, IsClass, superclass_of, 
 use Rattle.jinja.specs.Lookups.{position, own_fields, own_methods, fields_within, fields_of, own_field, Owned, methods_from, method_at, count_methods, own_method, sees_within, sees, overrides}
 use Rattle.jinja.specs.ClassLaws.{StandsIn, ClassInheritance}
 use Rattle.jinja.specs.WellFormed.{WellFormed}
-use Rattle.jinja.proofs.Options.{conflict, some_inj, false_true, maybe_found, nth_below, nth_front, nth_back, nth_map, map_length}
+use Rattle.jinja.proofs.Options.{conflict, some_inj, maybe_found, nth_front, nth_back, nth_map}
 use Rattle.jinja.proofs.Climbs.{object_root, falls_to, climb}
+use Rattle.std.proofs.lemmas.List.{length-map}
 
 -- an item that was found by its name
 position_found : {A : Type 0} (name : A → ℕ) (n : ℕ) (xs : List A) {i : ℕ} → position name n xs ≡ Some i → (x : A) × (slice_get xs i ≡ Some x)
@@ -32,7 +33,7 @@ method_placed b zero j (d ∷ ds) {x = x} e q =
     rw (zero-add, add-zero) (nth_front (map (λ m. record { owner = b; method = m }) d.methods) _ j (nth_map (λ m. record { owner = b; method = m }) d.methods j (rw (some_inj e) q)))
 method_placed b (suc c) j (d ∷ ds) {x = x} e q =
     let owned : MethodDecl → Owned = λ m. record { owner = b; method = m } in
-    let l : length (map owned d.methods) ≡ length d.methods = map_length owned d.methods in
+    let l : length (map owned d.methods) ≡ length d.methods = length-map d.methods owned in
     let n : length d.methods + count_methods (take c ds) + j ≡ length (map owned d.methods) + (count_methods (take c ds) + j) = omega arith in
     let m : b + suc c ≡ suc b + c = omega arith in
     rw (n, m) (nth_back (map owned d.methods) (methods_from (suc b) ds) (count_methods (take c ds) + j) ∙ method_placed (suc b) c j ds e q)
@@ -49,7 +50,7 @@ module _ (P : Program) where
       go : (o : Option ClassDecl) → class_at P c ≡ o → (j : ℕ) → count_methods (take c (table P)) + j ≡ k → (x : MethodDecl) → slice_get (maybe o [] (λ d. d.methods)) j ≡ Some x → (N : Owned) × (slice_get (methods_from 0 (table P)) k ≡ Some N) × (N.owner ≡ c) × IsClass P c
       go None q j z x e = absurd (conflict e)
       go (Some d) q j z x e =
-          (record { owner = 0 + c; method = x }, rw (← z) (method_placed 0 c j (table P) q e), zero-add c, nth_below (table P) c q)
+          (record { owner = 0 + c; method = x }, rw (← z) (method_placed 0 c j (table P) q e), zero-add c, slice_get_within (table P) c _ q)
 
   object_declares_none : (m : ℕ) → own_method P 0 m ≡ None
   unfolding own_method
@@ -72,8 +73,8 @@ same_type_is t u e = sym (type_read_back t) ∙ ap type_of_number (eqb-true _ _ 
 
 pub same_types_are : (ts us : List Ty) → same_types ts us ≡ true → ts ≡ us
 same_types_are [] [] e = refl
-same_types_are [] (u ∷ us) e = absurd (false_true e)
-same_types_are (t ∷ ts) [] e = absurd (false_true e)
+same_types_are [] (u ∷ us) e = absurd (false≢true e)
+same_types_are (t ∷ ts) [] e = absurd (false≢true e)
 same_types_are (t ∷ ts) (u ∷ us) e = let p = and_parts (same_type t u) (same_types ts us) e in rw (same_type_is t u p.0, same_types_are ts us p.1)
 
 types_same : (ts : List Ty) → same_types ts ts ≡ true

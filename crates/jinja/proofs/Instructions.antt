@@ -23,7 +23,7 @@ use Rattle.jinja.specs.WellTyping.{Flows, FlowAll, no_more, flow, Caught, WellTy
 use Rattle.jinja.specs.Values.{class_of, start_row}
 use Rattle.jinja.specs.Step.{Frame, null_pointer_at, class_cast_at, out_of_memory_at, goes, raise, exec}
 use Rattle.jinja.specs.Fits.{Fits, null_fits, null_fits_class, boolean_fits, integer_fits, address_fits, FitAll, FitsCell, fits_usable, FitCells, field_types, ObjectsFit, Exceptions, Below, stand}
-use Rattle.jinja.proofs.Options.{nth_map, nth_below}
+use Rattle.jinja.proofs.Options.{nth_map}
 use Rattle.jinja.proofs.Climbs.{below_tested, below_found}
 use Rattle.jinja.proofs.Inheritance.{inheritance}
 use Rattle.jinja.proofs.Pairwise.{pairs_length, shorter, pairs_nth, pairs_set}
@@ -31,6 +31,7 @@ use Rattle.jinja.proofs.Values.{fit_up, all_grow, cells_grow, literal_fits, fits
 use Rattle.jinja.proofs.Objects.{class_object, grows_add, class_new, grows_write, exceptions_grow, objects_written, objects_added}
 use Rattle.jinja.proofs.Good.{Good, good_goes, Now, bind, guard, either, deref, frame_at, below_grow}
 use Rattle.jinja.proofs.Unwind.{raise_good}
+use Rattle.std.proofs.lemmas.Option.{slice_get_within}
 
 abbrev pub frame : ℕ → ℕ → List Value → List Value → Frame
 frame k pc stk regs = record { method = k; pc = pc; stack = stk; registers = regs }
@@ -123,7 +124,7 @@ module _ {P : Program} {Φ : ℕ → Table} (w : WellFormed P) (typed : WellTypi
       let t = field_placed w c n e below' in
       let old = pairs_nth x.place (now.objects.each a o.0 o.1).row_fits t in
       let g = grows_write h a x.place v o.1 in
-      bind _ o.1 (guard (below_tested w below') (guard (lt-ltb _ _ (nth_below _ x.place old.1))
+      bind _ o.1 (guard (below_tested w below') (guard (lt-ltb _ _ (slice_get_within _ x.place _ old.1))
       (arrives now.frame_fits.method_is (below_grow g now.below) (objects_written a x.place now.objects o.1 t (fit_up fv lv)) (exceptions_grow g now.exceptions) fl (all_grow g s) (cells_grow g r)))))))
 
   pub checkcast_good : {stk : List Value} {st : List Ty} {lt : List Cell} {es : List Edge} (c : ℕ) → Now P Φ h b (frame k pc stk regs) rest M st lt → Rule P M (Checkcast c) pc st lt es → FlowAll P M (Φ k) es → FitAll P h stk st → FitCells P h regs lt → Handled P Φ M k pc st lt (Checkcast c) → Good P Φ h b (exec P (Checkcast c) h M (frame k pc stk regs) rest)

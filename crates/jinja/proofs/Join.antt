@@ -1,7 +1,7 @@
 -- The join is the least upper bound, and is there wherever there is an upper bound. Assumes nothing.
 use Rattle.std.proofs.Common.{◌≡◌, ℕ, zero, suc, ◌+◌, ◌<◌, ◌≤◌, Bool, true, false, cond, eqb, ltb, List, [], ◌∷◌, Some, None, Option, sym, refl, ◌∙◌, subst, ⊎_elim, arith}
 use Rattle.std.specs.List.{AllByRecursion}
-use Rattle.std.proofs.lemmas.Bool.{eqb-true, eqb-false, ltb-true, ltb-false, cases_lt}
+use Rattle.std.proofs.lemmas.Bool.{eqb-true, eqb-false, ltb-true, ltb-false, cases_lt, false≢true}
 use Rattle.jinja.specs.declared.ty.Ty.{Ty}
 use Rattle.jinja.specs.declared.ty.Ty.TheVariants.{Void, Boolean, Integer, NullType, Class}
 use Rattle.jinja.specs.Program.{Program}
@@ -13,7 +13,7 @@ use Rattle.jinja.specs.Rows.{Cell, usable, unusable, Row, unreached, reached, Ce
 use Rattle.jinja.specs.Order.{nil, cons, Le, void, boolean, integer, null, null_class, subclass, LeAll, LeCell, le_usable, le_unusable, LeCells, LeRow, le_unreached, le_reached}
 use Rattle.jinja.specs.Join.{meet_within, nearest, is_reference, join_type, join_stack, join_cell, join_cells, join_row}
 use Rattle.jinja.specs.TypingLaws.{NearestCommon, Lub, JoinLawsHold}
-use Rattle.jinja.proofs.Options.{conflict, some_inj, false_true}
+use Rattle.jinja.proofs.Options.{conflict, some_inj}
 use Rattle.jinja.proofs.Climbs.{super_exists, upper_smaller}
 use Rattle.jinja.proofs.Order.{le_refl, row_refl}
 use Rattle.jinja.proofs.Inheritance.{same_type_is}
@@ -73,9 +73,9 @@ module _ {P : Program} (w : WellFormed P) where
       least_of n (subclass r) k = subclass (n.nearest r (below_of k))
 
   null_lub : (u : Ty) → TypeExists P u → is_reference u ≡ true → LubType NullType u u
-  null_lub Void x e = absurd (false_true e)
-  null_lub Boolean x e = absurd (false_true e)
-  null_lub Integer x e = absurd (false_true e)
+  null_lub Void x e = absurd (false≢true e)
+  null_lub Boolean x e = absurd (false≢true e)
+  null_lub Integer x e = absurd (false≢true e)
   null_lub NullType x e = same_lub NullType x
   null_lub (Class c) x e = record { left = null_class (ltb-true _ _ x); right = le_refl (Class c) x; least = λ y l k. k }
 

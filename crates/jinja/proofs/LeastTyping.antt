@@ -14,13 +14,14 @@ use Rattle.jinja.specs.WellTyping.{FlowAll, no_more, flow, WellTyping, LeTable, 
 use Rattle.jinja.specs.Transfer.{sends}
 use Rattle.jinja.specs.TypingLaws.{Lub, TypableHasLeast}
 use Rattle.jinja.specs.Rising.{Allowed, unreached_allowed, row_left, table_left}
-use Rattle.jinja.proofs.Options.{conflict, some_inj, nth_inside, nth_below}
+use Rattle.jinja.proofs.Options.{conflict, some_inj, nth_inside}
 use Rattle.jinja.proofs.Order.{row_refl, row_trans}
 use Rattle.jinja.proofs.Bridge.{flows_first, flows_rest, typed}
 use Rattle.jinja.proofs.Join.{join_laws}
 use Rattle.jinja.proofs.Sends.{sent_below}
 use Rattle.jinja.proofs.Rising.{above_allowed, allowed_row, row_falls, sum_below_falls}
 use Rattle.jinja.proofs.SentRows.{CarriesAllowed, sent_allowed, first_allowed}
+use Rattle.std.proofs.lemmas.Option.{slice_get_within}
 
 -- the table with the row r at p
 abbrev with_row : ℕ → Row → Table → Table
@@ -136,7 +137,7 @@ module _ {P : Program} (w : WellFormed P) {M : Owned} (some : 0 < length M.metho
       typing = record {
         rows_of = λ pc l. allowed_row (held.allowed pc l);
         start = held.start;
-        each = λ pc i st lt is e. let s = settled pc (nth_below M.method.code pc is) i st lt is e in typed w i pc st lt s.1 s.2;
+        each = λ pc i st lt is e. let s = settled pc (slice_get_within M.method.code pc _ is) i st lt is e in typed w i pc st lt s.1 s.2;
       };
       least = held.under;
     }

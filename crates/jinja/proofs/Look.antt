@@ -1,7 +1,7 @@
 -- No address passes begin, and what looking shows. Assumes nothing.
 use Rattle.std.proofs.Common.{◌≡◌, ℕ, zero, suc, ◌-◌, ◌<◌, ◌≤◌, true, cond, List, [], ◌∷◌, length, Some, None, sym, ap, ◌∙◌, subst, arith}
 use Rattle.std.specs.List.{slice_get}
-use Rattle.std.proofs.lemmas.Bool.{lt-ltb, le-ltb, and_parts}
+use Rattle.std.proofs.lemmas.Bool.{lt-ltb, le-ltb, and_parts, false≢true}
 use Rattle.heap.specs.declared.value.Value.TheVariants as value
 use Rattle.heap.specs.Meaning.{Meaning}
 use Rattle.heap.specs.Calls.{after_empty}
@@ -10,15 +10,15 @@ use Rattle.jinja.specs.Program.{Program}
 use Rattle.jinja.specs.Values.{class_of, fits, fit_all}
 use Rattle.jinja.specs.Look.{from_bottom}
 use Rattle.jinja.specs.MachineLaws.{NoAddressBegins, LookLaws, LookLawsHold}
-use Rattle.jinja.proofs.Options.{conflict, some_inj, false_true, nth_inside}
+use Rattle.jinja.proofs.Options.{conflict, some_inj, nth_inside}
 
 no_address_fits : (P : Program) (h : Meaning) (t : Ty) (a : ℕ) → fits P (after_empty h) (value.Addr a) t ≡ true → ⊥
 unfolding fits class_of
-no_address_fits P h t a e = false_true e
+no_address_fits P h t a e = false≢true e
 
 pub no_address_begins : NoAddressBegins
 no_address_begins P h [] ts e i a q = conflict q
-no_address_begins P h (v ∷ args) [] e i a q = false_true e
+no_address_begins P h (v ∷ args) [] e i a q = false≢true e
 no_address_begins P h (v ∷ args) (t ∷ ts) e zero a q =
     let p = and_parts (fits P (after_empty h) v t) (fit_all P (after_empty h) args ts) e in no_address_fits P h t a (subst (λ v. fits P (after_empty h) v t ≡ true) (some_inj q) p.0)
 no_address_begins P h (v ∷ args) (t ∷ ts) e (suc i) a q = no_address_begins P h args ts (and_parts (fits P (after_empty h) v t) (fit_all P (after_empty h) args ts) e).1 i a q

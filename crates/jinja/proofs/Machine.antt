@@ -1,7 +1,7 @@
 -- The laws of runs, refusals and ends. Assumes nothing.
 use Rattle.std.proofs.Common.{◌≡◌, ℕ, zero, suc, ◌+◌, ◌≤◌, min, Bool, true, false, cond, eqb, List, ℤ, pos, negsuc, Some, None, Ok, Err, Option, Result, sym, refl, ap, ◌∙◌, suc-add, zero-add, arith}
 use mathlib.Core.Path.{subst⁻¹}
-use Rattle.std.proofs.lemmas.Bool.{eqb-true, eq-eqb, cond_both}
+use Rattle.std.proofs.lemmas.Bool.{eqb-true, eq-eqb, cond_both, false≢true}
 use Rattle.heap.specs.declared.value.Value.{Value}
 use Rattle.heap.specs.declared.value.Value.TheVariants as value
 use Rattle.heap.specs.Meaning.{Meaning}
@@ -24,7 +24,6 @@ use Rattle.jinja.specs.Step.{Next, goes, returned, threw, frames_full, next_step
 use Rattle.jinja.specs.State.{State, most_steps, settled, step_in, step, run_on, run}
 use Rattle.jinja.specs.Calls.{begun, emptied, first_objects, begin_with, begin_seen, begin_in, begin, unless_idle, end_with, end_in, end, Call, begins, steps, runs, ends, replied, perform}
 use Rattle.jinja.specs.MachineLaws.{and_then, MachineLawsHold, ValuesWhole}
-use Rattle.jinja.proofs.Options.{false_true}
 
 -- a step that answered 0, before a run
 abbrev counting : Ran × State → Ran × State
@@ -190,41 +189,41 @@ machine_laws P = record {
 -- values
 boolean_same : (b c : Bool) → same_boolean b c ≡ true → b ≡ c
 boolean_same true true e = refl
-boolean_same true false e = absurd (false_true e)
-boolean_same false true e = absurd (false_true e)
+boolean_same true false e = absurd (false≢true e)
+boolean_same false true e = absurd (false≢true e)
 boolean_same false false e = refl
 
 integer_same : (y z : ℤ) → same_integer y z ≡ true → y ≡ z
 integer_same (pos m) (pos n) e = ap pos (eqb-true m n e)
-integer_same (pos m) (negsuc n) e = absurd (false_true e)
-integer_same (negsuc m) (pos n) e = absurd (false_true e)
+integer_same (pos m) (negsuc n) e = absurd (false≢true e)
+integer_same (negsuc m) (pos n) e = absurd (false≢true e)
 integer_same (negsuc m) (negsuc n) e = ap negsuc (eqb-true m n e)
 
 value_same : (v w : Value) → same_value v w ≡ true → v ≡ w
 value_same value.Unit value.Unit e = refl
-value_same value.Unit value.Null e = absurd (false_true e)
-value_same value.Unit (value.Bool c) e = absurd (false_true e)
-value_same value.Unit (value.Int z) e = absurd (false_true e)
-value_same value.Unit (value.Addr a) e = absurd (false_true e)
-value_same value.Null value.Unit e = absurd (false_true e)
+value_same value.Unit value.Null e = absurd (false≢true e)
+value_same value.Unit (value.Bool c) e = absurd (false≢true e)
+value_same value.Unit (value.Int z) e = absurd (false≢true e)
+value_same value.Unit (value.Addr a) e = absurd (false≢true e)
+value_same value.Null value.Unit e = absurd (false≢true e)
 value_same value.Null value.Null e = refl
-value_same value.Null (value.Bool c) e = absurd (false_true e)
-value_same value.Null (value.Int z) e = absurd (false_true e)
-value_same value.Null (value.Addr a) e = absurd (false_true e)
-value_same (value.Bool b) value.Unit e = absurd (false_true e)
-value_same (value.Bool b) value.Null e = absurd (false_true e)
+value_same value.Null (value.Bool c) e = absurd (false≢true e)
+value_same value.Null (value.Int z) e = absurd (false≢true e)
+value_same value.Null (value.Addr a) e = absurd (false≢true e)
+value_same (value.Bool b) value.Unit e = absurd (false≢true e)
+value_same (value.Bool b) value.Null e = absurd (false≢true e)
 value_same (value.Bool b) (value.Bool c) e = ap value.Bool (boolean_same b c e)
-value_same (value.Bool b) (value.Int z) e = absurd (false_true e)
-value_same (value.Bool b) (value.Addr a) e = absurd (false_true e)
-value_same (value.Int y) value.Unit e = absurd (false_true e)
-value_same (value.Int y) value.Null e = absurd (false_true e)
-value_same (value.Int y) (value.Bool c) e = absurd (false_true e)
+value_same (value.Bool b) (value.Int z) e = absurd (false≢true e)
+value_same (value.Bool b) (value.Addr a) e = absurd (false≢true e)
+value_same (value.Int y) value.Unit e = absurd (false≢true e)
+value_same (value.Int y) value.Null e = absurd (false≢true e)
+value_same (value.Int y) (value.Bool c) e = absurd (false≢true e)
 value_same (value.Int y) (value.Int z) e = ap value.Int (integer_same y z e)
-value_same (value.Int y) (value.Addr a) e = absurd (false_true e)
-value_same (value.Addr a) value.Unit e = absurd (false_true e)
-value_same (value.Addr a) value.Null e = absurd (false_true e)
-value_same (value.Addr a) (value.Bool c) e = absurd (false_true e)
-value_same (value.Addr a) (value.Int z) e = absurd (false_true e)
+value_same (value.Int y) (value.Addr a) e = absurd (false≢true e)
+value_same (value.Addr a) value.Unit e = absurd (false≢true e)
+value_same (value.Addr a) value.Null e = absurd (false≢true e)
+value_same (value.Addr a) (value.Bool c) e = absurd (false≢true e)
+value_same (value.Addr a) (value.Int z) e = absurd (false≢true e)
 value_same (value.Addr a) (value.Addr c) e = ap value.Addr (eqb-true a c e)
 
 value_itself : (v : Value) → same_value v v ≡ true

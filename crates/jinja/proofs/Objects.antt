@@ -1,7 +1,7 @@
 -- The heap grows and is written: objects keep their classes and go on fitting. Assumes nothing.
 use Rattle.std.proofs.Common.{◌≡◌, ℕ, zero, suc, ◌⊎◌, List, [], ◌∷◌, ◌++◌, length, set, Some, sym, refl, ap, ◌∙◌, subst, inl, inr, ⊎_elim}
 use Rattle.std.specs.List.{slice_get}
-use Rattle.std.proofs.lemmas.Option.{slice_get-get_or}
+use Rattle.std.proofs.lemmas.Option.{slice_get-get_or, slice_get_within}
 use Rattle.heap.specs.declared.value.Value.{Value}
 use Rattle.heap.specs.Meaning.{Object, Meaning}
 use Rattle.heap.specs.Calls.{no_object, object_at, with_objects, with_object, with_field, with_value}
@@ -12,7 +12,7 @@ use Rattle.jinja.specs.WellFormed.{WellFormed}
 use Rattle.jinja.specs.Lookups.{fields_of}
 use Rattle.jinja.specs.Values.{class_of, start_row}
 use Rattle.jinja.specs.Fits.{Fits, field_types, ObjectFits, ObjectsFit, Exceptions}
-use Rattle.jinja.proofs.Options.{conflict, some_inj, maybe_found, nth_below, nth_front}
+use Rattle.jinja.proofs.Options.{conflict, some_inj, maybe_found, nth_front}
 use Rattle.jinja.proofs.Existing.{fields_exist}
 use Rattle.jinja.proofs.Pairwise.{pairs_put}
 use Rattle.jinja.proofs.Values.{Grows, all_grow, fit_grow, starts_fit}
@@ -51,7 +51,7 @@ class_new h c vs = object_class (with_object h c vs) (length h.objects) (nth_las
 
 -- what an address shows is what stands there
 pub object_is : (h : Meaning) (a : ℕ) {o : Object} → slice_get h.objects a ≡ Some o → object_at h a ≡ o
-object_is h a e = some_inj (sym (slice_get-get_or h.objects a no_object (nth_below h.objects a e)) ∙ e)
+object_is h a e = some_inj (sym (slice_get-get_or h.objects a no_object (slice_get_within h.objects a _ e)) ∙ e)
 
 pub with_value_is : (h : Meaning) (a i : ℕ) (v : Value) {o : Object} → slice_get h.objects a ≡ Some o → with_value h a i v ≡ with_objects h (set h.objects a (with_field o i v))
 with_value_is h a i v e = ap (λ o. with_objects h (set h.objects a (with_field o i v))) (object_is h a e)

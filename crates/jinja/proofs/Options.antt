@@ -1,5 +1,5 @@
 -- Look-ups: what was found, and lists by position. Assumes nothing.
-use Rattle.std.proofs.Common.{◌≡◌, ℕ, zero, suc, ◌+◌, ◌<◌, true, false, List, [], ◌∷◌, ◌++◌, map, length, Some, None, Option, refl, ap, subst, suc-add, zero-add, arith}
+use Rattle.std.proofs.Common.{◌≡◌, ℕ, zero, suc, ◌+◌, ◌<◌, List, [], ◌∷◌, ◌++◌, map, length, Some, None, Option, refl, ap, subst, suc-add, zero-add, arith}
 use Rattle.std.specs.List.{slice_get, AllByRecursion}
 use Rattle.jinja.specs.Classes.{maybe}
 
@@ -9,9 +9,6 @@ conflict e = let z : ◌≡◌ {A = ℕ} 0 1 = cc in omega arith
 pub some_inj : {A : Type 0} {a b : A} → Some a ≡ Some b → a ≡ b
 some_inj e = cc
 
-pub false_true : false ≡ true → ⊥
-false_true e = let z : ◌≡◌ {A = ℕ} 0 1 = cc in omega arith
-
 pub maybe_found : {A B : Type 0} (o : Option A) (f : A → Option B) {b : B} → maybe o None f ≡ Some b → (a : A) × (o ≡ Some a) × (f a ≡ Some b)
 maybe_found None f e = absurd (conflict e)
 maybe_found (Some a) f e = (a, refl, e)
@@ -20,11 +17,6 @@ pub nth_inside : {A : Type 0} (xs : List A) (i : ℕ) → i < length xs → (a :
 nth_inside [] i l = absurd (omega arith)
 nth_inside (x ∷ xs) zero l = (x, refl)
 nth_inside (x ∷ xs) (suc i) l = nth_inside xs i (omega arith)
-
-pub nth_below : {A : Type 0} (xs : List A) (i : ℕ) {a : A} → slice_get xs i ≡ Some a → i < length xs
-nth_below [] i e = absurd (conflict e)
-nth_below (x ∷ xs) zero e = omega arith
-nth_below (x ∷ xs) (suc i) e = let l = nth_below xs i e in omega arith
 
 pub all_nth : {A : Type 0} (Q : A → Type 0) (xs : List A) (i : ℕ) {a : A} → AllByRecursion Q xs → slice_get xs i ≡ Some a → Q a
 all_nth Q [] i q e = absurd (conflict e)
@@ -44,7 +36,3 @@ pub nth_map : {A B : Type 0} (f : A → B) (xs : List A) (i : ℕ) {a : A} → s
 nth_map f [] i e = absurd (conflict e)
 nth_map f (x ∷ xs) zero e = ap (λ z. Some (f z)) (some_inj e)
 nth_map f (x ∷ xs) (suc i) e = nth_map f xs i e
-
-pub map_length : {A B : Type 0} (f : A → B) (xs : List A) → length (map f xs) ≡ length xs
-map_length f [] = refl
-map_length f (x ∷ xs) = ap suc (map_length f xs)

@@ -1,7 +1,7 @@
 -- Values fit what lies above and what the heap grows to, and the tests decide it. Assumes nothing.
 use Rattle.std.proofs.Common.{◌≡◌, ℕ, zero, suc, true, false, List, [], ◌∷◌, ◌++◌, map, replicate, Some, None, Option, sym, refl, subst}
 use Rattle.std.specs.List.{AllByRecursion}
-use Rattle.std.proofs.lemmas.Bool.{lt-ltb, ltb-true, and_from, and_parts}
+use Rattle.std.proofs.lemmas.Bool.{lt-ltb, ltb-true, and_from, and_parts, false≢true}
 use Rattle.heap.specs.declared.value.Value.{Value}
 use Rattle.heap.specs.declared.value.Value.TheVariants as value
 use Rattle.heap.specs.Meaning.{Meaning}
@@ -19,7 +19,7 @@ use Rattle.jinja.specs.Rule.{literal_type}
 use Rattle.jinja.specs.Transfer.{type_le}
 use Rattle.jinja.specs.Values.{class_of, value_type, fits, fit_all, literal_value, start_value}
 use Rattle.jinja.specs.Fits.{Fits, unit_fits, null_fits, null_fits_class, boolean_fits, integer_fits, address_fits, FitAll, FitsCell, fits_usable, fits_unusable, FitCells}
-use Rattle.jinja.proofs.Options.{some_inj, false_true, maybe_found}
+use Rattle.jinja.proofs.Options.{some_inj, maybe_found}
 use Rattle.jinja.proofs.Climbs.{below_trans, below_tested, upper_exists}
 use Rattle.jinja.proofs.Pairwise.{pairs_map, pairs_trans}
 use Rattle.jinja.proofs.Bridge.{le_found}
@@ -118,11 +118,11 @@ module _ {P : Program} (w : WellFormed P) where
   fits_found h v t e = go (value_type h v) refl e
     where
       go : (o : Option Ty) → value_type h v ≡ o → maybe o false (λ u. type_le P u t) ≡ true → Fits P h v t
-      go None q e = absurd (false_true e)
+      go None q e = absurd (false≢true e)
       go (Some u) q e = own_fits h v q (le_found w u t e)
 
   pub fit_all_found : (h : Meaning) (vs : List Value) (ts : List Ty) → fit_all P h vs ts ≡ true → FitAll P h vs ts
   fit_all_found h [] [] e = nil
-  fit_all_found h [] (t ∷ ts) e = absurd (false_true e)
-  fit_all_found h (v ∷ vs) [] e = absurd (false_true e)
+  fit_all_found h [] (t ∷ ts) e = absurd (false≢true e)
+  fit_all_found h (v ∷ vs) [] e = absurd (false≢true e)
   fit_all_found h (v ∷ vs) (t ∷ ts) e = let p = and_parts (fits P h v t) (fit_all P h vs ts) e in cons (fits_found h v t p.0) (fit_all_found h vs ts p.1)

@@ -13,7 +13,7 @@ use Rattle.jinja.specs.Order.{LeRow}
 use Rattle.jinja.specs.Rule.{Edge, edge, Rule, load, store, push, pop, new, getfield, putfield, checkcast, invoke, invoke_null, return, iadd, cmpeq, cmpeq_references, iffalse, goto, throw}
 use Rattle.jinja.specs.WellTyping.{Flows, FlowAll, no_more, flow, Typed, WellTyping}
 use Rattle.jinja.specs.Transfer.{is_relevant}
-use Rattle.jinja.proofs.Options.{false_true, nth_below, all_nth}
+use Rattle.jinja.proofs.Options.{all_nth}
 use Rattle.jinja.proofs.Bridge.{transfer_complete}
 use Rattle.jinja.proofs.Sends.{sends_by_rules}
 use Rattle.walk.specs.Limits.{most_nodes}
@@ -28,6 +28,8 @@ use Rattle.type_rows.specs.SentRows.{CarriesRow, first_in_use}
 use Rattle.type_rows.specs.FlowLaws.{sent_at, nexts_at, carries_at, taken_at, taken_sends_rows, taken_handler_row}
 use Rattle.type_rows.specs.TypeRows.{type_rows}
 use Rattle.type_rows.specs.Typings.{row_of, rows_of}
+use Rattle.std.proofs.lemmas.Bool.{false≢true}
+use Rattle.std.proofs.lemmas.Option.{slice_get_within}
 
 -- an edge whose successor takes what it gets
 abbrev pub FlowsEdge : Program → Owned → Table → Edge → Type 0
@@ -73,7 +75,7 @@ reached_row clash e = absurd (apart e)
     is_reached (reached s l) = true
 
     apart : {s : List Ty} {l : List Cell} → unreached ≡ reached s l → ⊥
-    apart e = false_true (ap is_reached e)
+    apart e = false≢true (ap is_reached e)
 
 in_use_row : {P : Program} {M : Owned} {x : Merge} → InUse P M x → RowOf P M (row_of x)
 in_use_row (row_in_use r h) = r
@@ -81,7 +83,7 @@ in_use_row clash_in_use = no_row
 
 -- what lies below a row that is not refused
 below_row : (P : Program) (M : Owned) (pc : ℕ) (x : Merge) {r : Row} → refuses P M pc x ≡ false → LeMerge P (merged r) x → LeRow P r (row_of x)
-below_row P M pc clash f l = absurd (false_true (sym f))
+below_row P M pc clash f l = absurd (false≢true (sym f))
 below_row P M pc (merged s) f l = row_of_merged l
 
 module _ {P : Program} (w : WellFormed P) (M : Owned) (k : ℕ) (m : method_at P k ≡ Some M) (few : length M.method.code ≤ most_nodes) {T : ℕ → Merge} (s : Solution (type_rows P M k w m few) T) where
@@ -94,7 +96,7 @@ module _ {P : Program} (w : WellFormed P) (M : Owned) (k : ℕ) (m : method_at P
 
   module _ (pc : ℕ) (i : Instr) (st : List Ty) (lt : List Cell) (at : slice_get M.method.code pc ≡ Some i) (is : T pc ≡ merged (reached st lt)) where
     here : pc < length M.method.code
-    here = nth_below M.method.code pc at
+    here = slice_get_within M.method.code pc _ at
 
     used : InUse P M (merged (reached st lt))
     used = subst (InUse P M) is (s.goods pc here)
@@ -112,7 +114,7 @@ module _ {P : Program} (w : WellFormed P) (M : Owned) (k : ℕ) (m : method_at P
     handler_flows : (j : ℕ) (x : Handler) → slice_get M.method.handlers j ≡ Some x → is_relevant P i pc x ≡ true → FlowsEdge P M (rows_of T) (handler_edge st lt x)
     handler_flows j x q r =
         let c = takes.caught j x q r in
-        let b = nth_below M.method.handlers j q in
+        let b = slice_get_within M.method.handlers j _ q in
         flows_to c.1 (taken_handler_row w x used c.0) (rw (q, r) at (lands (suc (suc j)) (omega arith)))
 
     solved_typed : Typed P M (rows_of T) i pc st lt

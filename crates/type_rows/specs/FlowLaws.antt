@@ -14,7 +14,7 @@ use Rattle.jinja.specs.Order.{cons, subclass, LeAll, LeCells, le_reached}
 use Rattle.jinja.specs.Rule.{Edge, edge}
 use Rattle.jinja.specs.Transfer.{is_relevant}
 use Rattle.jinja.specs.TypingLaws.{LeEdges, le_stop, le_edge}
-use Rattle.jinja.proofs.Options.{nth_inside, false_true}
+use Rattle.jinja.proofs.Options.{nth_inside}
 use Rattle.jinja.proofs.Pairwise.{pairs_lowest}
 use Rattle.jinja.proofs.Bridge.{transfer_complete}
 use Rattle.walk.specs.Limits.{most_nodes}
@@ -24,6 +24,7 @@ use Rattle.type_rows.specs.MergeOrder.{LeMerge, le_merged, le_to_join, le_from_j
 use Rattle.type_rows.specs.MethodFlow.{to_node, to_handler, refuses_row, refuses, edge_of, carries, method_flow}
 use Rattle.type_rows.specs.Taking.{Inside, Suits, handler_edge, Taken, taken_found, taken_tested, taken_below}
 use Rattle.type_rows.specs.SentRows.{CarriesRow, rule_sends_rows, handler_sends_row, first_in_use}
+use Rattle.std.proofs.lemmas.Bool.{false≢true}
 
 -- what the edge e of a list sends
 abbrev pub sent_at : List Edge → ℕ → Sent Merge
@@ -97,7 +98,7 @@ module _ {P : Program} (w : WellFormed P) (M : Owned) (pc : ℕ) {i : Instr} (at
   taken_at st lt e = taken_found w i pc st lt (sym (refuses_at (reached st lt)) ∙ e)
 
   lower_taken : (x y : Merge) → LeMerge P x y → refuses P M pc y ≡ false → refuses P M pc x ≡ false
-  lower_taken x clash l e = absurd (false_true (sym e))
+  lower_taken x clash l e = absurd (false≢true (sym e))
   lower_taken clash (merged s) l e = absurd (elim l [ ])
   lower_taken (merged unreached) (merged s) l e = refuses_at unreached
   lower_taken (merged (reached st lt)) (merged unreached) l e = absurd (no_lower l)
@@ -114,7 +115,7 @@ module _ {P : Program} (w : WellFormed P) (M : Owned) (pc : ℕ) {i : Instr} (at
   node_below : (e : ℕ) (x y : Merge) → InUse P M x → InUse P M y → LeMerge P x y → refuses P M pc y ≡ false → Below (merge P) (carries P M pc e x) (carries P M pc e y)
   node_below e clash y u v l f = nothing_below
   node_below e (merged unreached) y u v l f = nothing_below
-  node_below e (merged (reached st lt)) clash u v l f = absurd (false_true (sym f))
+  node_below e (merged (reached st lt)) clash u v l f = absurd (false≢true (sym f))
   node_below e (merged (reached st lt)) (merged unreached) u v (le_merged k) f = absurd (elim k [ ])
   node_below e (merged (reached st lt)) (merged (reached st' lt')) u v (le_merged (le_reached a b)) f =
       rw (carries_at e st lt, carries_at e st' lt') (edge_below w a b u v (taken_at st' lt' f) e)

@@ -3,7 +3,7 @@ use Rattle.std.specs.Prelude.{◌≡◌, ℕ, zero, suc, ◌<◌, ◌≤◌, Boo
 use Rattle.std.proofs.Common.{sym, subst, arith}
 use Rattle.std.specs.List.{slice_get, AllByRecursion}
 use Rattle.std.proofs.ByRecursion.{All-append}
-use Rattle.std.proofs.lemmas.Bool.{lt-ltb, le-leb, ltb-true, leb-true, and_parts, and_from}
+use Rattle.std.proofs.lemmas.Bool.{lt-ltb, le-leb, ltb-true, leb-true, and_parts, and_from, false≢true}
 use Rattle.jinja.specs.declared.ty.Ty.{Ty}
 use Rattle.jinja.specs.declared.ty.Ty.TheVariants.{Class}
 use Rattle.jinja.specs.declared.instr.Instr.{Instr}
@@ -19,7 +19,7 @@ use Rattle.jinja.specs.Handlers.{lowest}
 use Rattle.jinja.specs.Rule.{Edge, edge, Rule}
 use Rattle.jinja.specs.Transfer.{is_relevant, transfer, send_handlers, sends}
 use Rattle.jinja.specs.TypingLaws.{LeEdges, le_stop, le_edge}
-use Rattle.jinja.proofs.Options.{conflict, some_inj, false_true}
+use Rattle.jinja.proofs.Options.{conflict, some_inj}
 use Rattle.jinja.proofs.Pairwise.{pairs_length}
 use Rattle.jinja.proofs.Bridge.{passed, tested, transfer_sound, transfer_complete}
 use Rattle.jinja.proofs.Monotone.{rules_monotone}
@@ -60,7 +60,7 @@ module _ {P : Program} {M : Owned} (i : Instr) (pc : ℕ) {st : List Ty} {lt : L
       let g = passed o _ f.1 in
       let n : AllByRecursion Q (handler_edge st lt x ∷ g.0) = subst (AllByRecursion Q) (sym (some_inj g.2)) a in
       (g.0, g.1, n.1, λ t. (record { exists = ltb-true _ _ b.0; deep = leb-true _ _ d.0; room = ltb-true _ _ f.0 }, n.0))
-  one_found {es} x o false e a = (es, e, a, λ t. absurd (false_true t))
+  one_found {es} x o false e a = (es, e, a, λ t. absurd (false≢true t))
 
   -- where the handlers send, each relevant one suits
   pub handlers_suit : (xs : List Handler) (es : List Edge) → send_handlers P M xs i pc st lt ≡ Some es → AllByRecursion Q es → (j : ℕ) (x : Handler) → slice_get xs j ≡ Some x → is_relevant P i pc x ≡ true → Suits P M st x × Q (handler_edge st lt x)
@@ -91,12 +91,12 @@ pub record Taken (P : Program) (M : Owned) (i : Instr) (pc : ℕ) (st : List Ty)
   pub caught : (j : ℕ) (x : Handler) → slice_get M.method.handlers j ≡ Some x → is_relevant P i pc x ≡ true → Suits P M st x × Inside (length M.method.code) (handler_edge st lt x)
 
 not_refused : (n : ℕ) (o : Option (List Edge)) → maybe o true (λ es. cond (all_inside n es) false true) ≡ false → (es : List Edge) × (o ≡ Some es) × (all_inside n es ≡ true)
-not_refused n None e = absurd (false_true (sym e))
+not_refused n None e = absurd (false≢true (sym e))
 not_refused n (Some es) e = (es, refl, go (all_inside n es) e)
   where
     go : (b : Bool) → cond b false true ≡ false → b ≡ true
     go true e = refl
-    go false e = absurd (false_true (sym e))
+    go false e = absurd (false≢true (sym e))
 
 lower_inside : {P : Program} (n : ℕ) {es fs : List Edge} → LeEdges P es fs → AllByRecursion (Inside n) fs → AllByRecursion (Inside n) es
 lower_inside n le_stop a = tt

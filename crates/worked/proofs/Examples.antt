@@ -2,7 +2,7 @@
 use Rattle.std.proofs.Common.{◌≡◌, ℕ, zero, suc, Bool, true, false, ◌&&◌, ltb, List, [], ◌∷◌, map, Some, None, Ok, Err, refl, subst, arith}
 use Rattle.std.specs.List.{slice_get, AllByRecursion}
 use Rattle.std.specs.Int.{int_wrap}
-use Rattle.std.proofs.lemmas.Bool.{and_parts, ltb-true}
+use Rattle.std.proofs.lemmas.Bool.{and_parts, ltb-true, false≢true}
 use Rattle.number.specs.declared.fault.NumberFault.TheVariants.{Cut, Padded}
 use Rattle.number.specs.Laws.{AllBytes}
 use Rattle.number.specs.Numbers.{number_at}
@@ -17,7 +17,7 @@ use Rattle.jinja.specs.Join.{nearest}
 use Rattle.jinja.specs.WellTyping.{LeastTypings}
 use Rattle.jinja.specs.Values.{class_of, fits}
 use Rattle.jinja.specs.History.{replies, step_answers}
-use Rattle.jinja.proofs.Options.{conflict, some_inj, false_true}
+use Rattle.jinja.proofs.Options.{conflict, some_inj}
 use Rattle.format.specs.declared.fault.TableFault.{TableFault}
 use Rattle.format.specs.declared.fault.TableFault.TheVariants.{Number, LeftOver}
 use Rattle.format.specs.Faults.{table_fault_number, table_fault_place}
@@ -38,7 +38,7 @@ are_least P (M ∷ Ms) (t ∷ ts) = is_least P M (listed t) && are_least P Ms ts
 
 least_at : (P : Program) (Ms : List Owned) (ts : List (List Row)) → are_least P Ms ts ≡ true → (k : ℕ) {M : Owned} → slice_get Ms k ≡ Some M → is_least P M (tables ts k) ≡ true
 least_at P [] ts e k m = absurd (conflict m)
-least_at P (N ∷ Ms) [] e k m = absurd (false_true e)
+least_at P (N ∷ Ms) [] e k m = absurd (false≢true e)
 least_at P (N ∷ Ms) (t ∷ ts) e zero m = subst (λ M. is_least P M (listed t) ≡ true) (some_inj m) (and_parts (is_least P N (listed t)) _ e).0
 least_at P (N ∷ Ms) (t ∷ ts) e (suc k) m = least_at P Ms ts (and_parts (is_least P N (listed t)) _ e).1 k m
 

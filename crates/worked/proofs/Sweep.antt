@@ -1,7 +1,7 @@
 -- One sweep over a method's code from its first row: every well-typing takes it, and lies above where it ends. Assumes nothing.
 use Rattle.std.proofs.Common.{◌≡◌, ℕ, zero, suc, ◌<◌, Bool, true, false, cond, ◌&&◌, eqb, ltb, List, [], ◌∷◌, length, Some, None, Option, sym, refl, ◌∙◌, subst}
 use Rattle.std.specs.List.{slice_get, AllByRecursion}
-use Rattle.std.proofs.lemmas.Bool.{and_parts, eqb-true, lt-ltb}
+use Rattle.std.proofs.lemmas.Bool.{and_parts, eqb-true, lt-ltb, false≢true}
 use Rattle.jinja.specs.declared.instr.Instr.{Instr}
 use Rattle.jinja.specs.Options.{◌>>=◌, ◌>>◌}
 use Rattle.jinja.specs.Program.{Program}
@@ -15,7 +15,7 @@ use Rattle.jinja.specs.Join.{join_row}
 use Rattle.jinja.specs.WellTyping.{FlowAll, WellTyping, LeTable, Least, Untypable}
 use Rattle.jinja.specs.Transfer.{sends}
 use Rattle.jinja.specs.Rising.{Allowed, unreached_allowed}
-use Rattle.jinja.proofs.Options.{conflict, some_inj, false_true, nth_below}
+use Rattle.jinja.proofs.Options.{conflict, some_inj}
 use Rattle.jinja.proofs.Order.{row_trans}
 use Rattle.jinja.proofs.Bridge.{flows_first, flows_rest}
 use Rattle.jinja.proofs.Join.{join_laws}
@@ -23,6 +23,7 @@ use Rattle.jinja.proofs.Sends.{sent_below}
 use Rattle.jinja.proofs.Rising.{above_allowed, allowed_row}
 use Rattle.jinja.proofs.SentRows.{CarriesAllowed, sent_allowed, first_allowed}
 use Rattle.worked.proofs.Tests.{each_place, at_place, row_le, is_typing, row_le_found, typing_found}
+use Rattle.std.proofs.lemmas.Option.{slice_get_within}
 
 -- the table with the row r at p
 abbrev with_row : ℕ → Row → Table → Table
@@ -91,7 +92,7 @@ module _ {P : Program} (w : WellFormed P) {M : Owned} {other : Table} (typing : 
       from : (i : Instr) → slice_get M.method.code pc ≡ Some i → (r : Row) → T pc ≡ r → ComesBelow (sends P M i pc r >>= pour P M T)
       from i is unreached e = record { rows = T; comes = refl; below = b }
       from i is (reached st lt) e =
-          let l = nth_below M.method.code pc is in
+          let l = slice_get_within M.method.code pc _ is in
           let s = sent_below w typing is (subst (λ r. LeRow P r (other pc)) e (b.under pc l)) in
           let fine = sent_allowed w M i pc st lt (subst (Allowed P M) e (b.allowed pc l)) s.1 in
           subst (λ o. ComesBelow (o >>= pour P M T)) (sym s.1) (pour_below T s.0 b fine s.2)
@@ -123,7 +124,7 @@ module _ {P : Program} (w : WellFormed P) {M : Owned} (k : ℕ) (m : method_at P
   least_found T e = let a = and_parts (is_typing P M T) _ e in record { typing = typing_found w a.0; least = λ other t. under (swept P M) refl a.1 other t }
     where
       under : (o : Option Table) → swept P M ≡ o → maybe o false (λ S. each_place (λ pc. row_le P (T pc) (S pc)) (length M.method.code)) ≡ true → (other : Table) → WellTyping P M other → LeTable P M T other
-      under None q e other t pc l = absurd (false_true e)
+      under None q e other t pc l = absurd (false≢true e)
       under (Some S) q e other t pc l =
           let s = swept_below w t k m in
           let same : S ≡ s.rows = some_inj (sym q ∙ s.comes) in

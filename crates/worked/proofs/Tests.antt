@@ -1,7 +1,7 @@
 -- The order of rows, the rows of a method and well-typings, each by a test that computes. Assumes nothing.
 use Rattle.std.proofs.Common.{◌≡◌, ℕ, zero, suc, ◌<◌, Bool, true, false, ◌&&◌, eqb, ltb, List, [], ◌∷◌, length, Some, None, Option, sym, refl, subst, ⊎_elim, arith}
 use Rattle.std.specs.List.{slice_get, AllByRecursion}
-use Rattle.std.proofs.lemmas.Bool.{and_parts, cases_eq, eqb-true, ltb-true}
+use Rattle.std.proofs.lemmas.Bool.{and_parts, cases_eq, eqb-true, ltb-true, false≢true}
 use Rattle.jinja.specs.declared.ty.Ty.{Ty}
 use Rattle.jinja.specs.declared.instr.Instr.{Instr}
 use Rattle.jinja.specs.Program.{Program}
@@ -14,9 +14,9 @@ use Rattle.jinja.specs.Order.{Pairwise, nil, cons, LeCell, le_usable, le_unusabl
 use Rattle.jinja.specs.Rule.{Edge, edge}
 use Rattle.jinja.specs.WellTyping.{FlowAll, no_more, flow, Typed, WellTyping}
 use Rattle.jinja.specs.Transfer.{type_le, sends}
-use Rattle.jinja.proofs.Options.{false_true, nth_below}
 use Rattle.jinja.proofs.Bridge.{le_found, typed}
 use Rattle.format.specs.Rules.{each}
+use Rattle.std.proofs.lemmas.Option.{slice_get_within}
 
 -- the test passes at each place below n
 abbrev pub each_place : (ℕ → Bool) → ℕ → Bool
@@ -43,8 +43,8 @@ pairs test (x ∷ xs) (y ∷ ys) = test x y && pairs test xs ys
 
 pairs_found : {A : Type 0} {R : A → A → Type 0} (test : A → A → Bool) → ((x y : A) → test x y ≡ true → R x y) → (xs ys : List A) → pairs test xs ys ≡ true → Pairwise R xs ys
 pairs_found test found [] [] e = nil
-pairs_found test found [] (y ∷ ys) e = absurd (false_true e)
-pairs_found test found (x ∷ xs) [] e = absurd (false_true e)
+pairs_found test found [] (y ∷ ys) e = absurd (false≢true e)
+pairs_found test found (x ∷ xs) [] e = absurd (false≢true e)
 pairs_found test found (x ∷ xs) (y ∷ ys) e = let p = and_parts (test x y) _ e in cons (found x y p.0) (pairs_found test found xs ys p.1)
 
 abbrev cell_le : Program → Cell → Cell → Bool
@@ -86,12 +86,12 @@ module _ {P : Program} (w : WellFormed P) where
   cell_le_found : (c d : Cell) → cell_le P c d ≡ true → LeCell P c d
   cell_le_found (usable t) (usable u) e = le_usable (le_found w t u e)
   cell_le_found (usable t) unusable e = le_unusable
-  cell_le_found unusable (usable u) e = absurd (false_true e)
+  cell_le_found unusable (usable u) e = absurd (false≢true e)
   cell_le_found unusable unusable e = le_unusable
 
   pub row_le_found : (r s : Row) → row_le P r s ≡ true → LeRow P r s
   row_le_found unreached s e = le_unreached
-  row_le_found (reached s l) unreached e = absurd (false_true e)
+  row_le_found (reached s l) unreached e = absurd (false≢true e)
   row_le_found (reached s l) (reached s' l') e =
       let p = and_parts (pairs (type_le P) s s') _ e in le_reached (pairs_found _ (le_found w) s s' p.0) (pairs_found _ cell_le_found l l' p.1)
 
@@ -120,7 +120,7 @@ module _ {P : Program} (w : WellFormed P) where
       settles_found pc i st lt e = go (sends P M i pc (reached st lt)) refl e
         where
           go : (o : Option (List Edge)) → sends P M i pc (reached st lt) ≡ o → maybe o false (takes P M T) ≡ true → Typed P M T i pc st lt
-          go None q e = absurd (false_true e)
+          go None q e = absurd (false≢true e)
           go (Some es) q e = typed w i pc st lt q (takes_found es e)
 
       pub typing_found : is_typing P M T ≡ true → WellTyping P M T
@@ -130,5 +130,5 @@ module _ {P : Program} (w : WellFormed P) where
           record {
             rows_of = λ pc l. row_fits_found (T pc) (at pc l).0;
             start = row_le_found (first_row M) (T 0) a.0;
-            each = λ pc i st lt is q. settles_found pc i st lt (subst (λ r. settles_from P M T pc i r ≡ true) q (subst (λ o. maybe o true (λ i. settles_from P M T pc i (T pc)) ≡ true) is (at pc (nth_below M.method.code pc is)).1));
+            each = λ pc i st lt is q. settles_found pc i st lt (subst (λ r. settles_from P M T pc i r ≡ true) q (subst (λ o. maybe o true (λ i. settles_from P M T pc i (T pc)) ≡ true) is (at pc (slice_get_within M.method.code pc _ is)).1));
           }

@@ -1,10 +1,10 @@
 use Rattle.std.proofs.Common.{sym}
-use Rattle.jinja.proofs.Options.{nth_below}
 use Rattle.tables.specs.Views.{program_of}
 use Rattle.engine.specs.Views.{frames_of}
 use Rattle.engine.specs.Stepping.{top_stack}
 use Rattle.engine.proofs.Calls.{invoke_on, invoke_none}
 use Rattle.engine.proofs.calling.invoke.Goals as goal
+use Rattle.std.proofs.lemmas.Option.{slice_get_within}
 
 pub returns-in_err-receiver : goal.returns-in_err-receiver
 returns-in_err-receiver g c M e =
@@ -12,7 +12,7 @@ returns-in_err-receiver g c M e =
 
 pub call-requires : goal.call-requires
 call-requires g c =
-    let high = nth_below (top_stack (frames_of c.args.frames.now)) c.args.n (sym c.in_ok-receiver.ensures) in
+    let high = slice_get_within (top_stack (frames_of c.args.frames.now)) c.args.n _ (sym c.in_ok-receiver.ensures) in
     record { ready = c.requires.ready; high = high }
 
 pub returns-in-Null : goal.returns-in-Null
