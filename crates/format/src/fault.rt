@@ -25,6 +25,7 @@ pub enum TableFault {
 }
 
 impl TableFault {
+    // No `From`: a refusal is not turned into its number, it has one.
     /// The refusal's number, 1 to 9.
     pub fn number(self) -> u8
         ensures { result ≡ table_fault_number self }

@@ -11,6 +11,7 @@ pub enum HeapFault {
 }
 
 impl HeapFault {
+    // No `From`: a refusal is not turned into its number, it has one.
     /// The number that users know the refusal by.
     pub fn number(self) -> u8
         ensures { result ≡ heap_fault_number self }

@@ -13,6 +13,7 @@ pub fn used<H: Heap>(heap: &H, line: ChargeLine) -> usize
     ensures bound { result ≤ cost_limit * word_limit }
 {
     let mut sum = 0;
+    // By address, as a heap is asked: a chain of closures over the same calls would be no plainer.
     for addr in 0..heap.count() {
         if let Ok(n) = heap.row_len(addr) {
             sum += line.cost(n);

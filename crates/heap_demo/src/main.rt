@@ -68,6 +68,7 @@ fn report<H: Heap>(rt: &HostRuntime, name: &str, heap: &mut H, fields: usize) ->
     let taken = fill_to_limit(heap, 4, row);
     let number = answer(heap.add(4, row));
     println!(rt; "{name}, rows of {fields}: {taken} taken, then {number}")?;
+    // By position, as a heap is asked.
     for position in 0..LINES {
         if let Some(line) = heap.line(position) {
             let sum = used(heap, line);

@@ -24,6 +24,7 @@ pub enum Answer {
 }
 
 impl Answer {
+    // No `From`: an answer is not turned into its number, it has one.
     /// The number that users know the answer by.
     pub fn number(self) -> u8
         ensures { result ≡ answer_number self }
@@ -56,6 +57,7 @@ pub enum Refusal {
 }
 
 impl Refusal {
+    // No `From`: a refusal is not turned into its number, it has one.
     /// The number that users know the refusal by.
     pub fn number(self) -> u8
         ensures { result ≡ refusal_number self }
@@ -72,6 +74,7 @@ impl Refusal {
 }
 
 /// What a run came to.
+// No Option of a Result: an object that is thrown is no error of the machine.
 #[derive(Clone, Copy, PartialEq, Eq)]
 pub enum Outcome {
     Nothing,

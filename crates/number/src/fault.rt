@@ -14,6 +14,7 @@ pub enum NumberFault {
 }
 
 impl NumberFault {
+    // No `From`: a refusal is not turned into its number, it has one.
     /// The number of the fault: 1 for a cut number, 2 for a padded one, 3 for one that is too great.
     pub fn number(self) -> u8
         ensures { result ≡ number_fault_number self }

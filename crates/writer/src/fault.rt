@@ -13,6 +13,7 @@ pub enum WriteFault {
 }
 
 impl WriteFault {
+    // No `From`: a refusal is not turned into its number, it has one.
     /// The refusal's number, 10.
     pub fn number(self) -> u8
         ensures { result ≡ write_fault_number self }
