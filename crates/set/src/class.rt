@@ -6,7 +6,7 @@ ghost use Rattle.tables.specs.Views.{classes_of, program_of};
 ghost use Rattle.set.specs.Counts.{below_at};
 ghost use Rattle.set.specs.Progress.{Full, class_step};
 ghost use Rattle.format.specs.Limits.{all_classes, max_classes};
-ghost use Rattle.set.specs.Taken.{Took};
+ghost use Rattle.set.specs.Taken.{Took, Went};
 
 use crate::methods::read_methods;
 use crate::push::push_class;
@@ -35,10 +35,9 @@ pub(crate) fn read_class(c: &mut Cursor, n: u32, t: &mut Tables) -> Result<(), T
     requires few { n ≤ all_classes }
     requires room { length (classes_of t.old) < max_classes }
     requires full { Full t.old }
-    ensures file { file_of c.new ≡ file_of c.old }
     ensures full { OnOk result (Full t.new) }
     ensures more { OnOk result (length (classes_of t.new) ≡ length (classes_of t.old) + 1) }
-    ensures gave { Left result (program_of t.new, place_of c.new) (class_step (file_of c.old) n (program_of t.old) (place_of c.old)) }
+    ensures went { Went c.old c.new (λ q. Left result (program_of t.new, q)) (λ file p. class_step file n (program_of t.old) p) }
 {
     let superclass = read_superclass(c, t.classes.len())?;
     let inherited = t.row_len(superclass);

@@ -7,7 +7,7 @@ ghost use Rattle.tables.specs.Spans.{part, Within};
 ghost use Rattle.tables.specs.Views.{methods_of, params_of, program_of};
 ghost use Rattle.set.specs.Progress.{mine, Tallied, MoreMethods, method_step};
 ghost use Rattle.format.specs.Limits.{all_classes, max_methods};
-ghost use Rattle.set.specs.Taken.{Took};
+ghost use Rattle.set.specs.Taken.{Took, Went};
 
 use crate::items::{at_most, read_type};
 use crate::names::read_name;
@@ -54,10 +54,9 @@ pub(crate) fn read_method(
     requires few { n ≤ all_classes }
     requires room { length (methods_of t.old) < max_methods }
     requires tallied { Tallied first t.old }
-    ensures file { file_of c.new ≡ file_of c.old }
     ensures tallied { OnOk result (Tallied first t.new) }
     ensures more { OnOk result (MoreMethods 1 t.old t.new) }
-    ensures gave { Left result (mine first t.new, place_of c.new) (method_step (file_of c.old) n (program_of t.old) s (mine first t.old) (place_of c.old)) }
+    ensures went { Went c.old c.new (λ q. Left result (mine first t.new, q)) (λ file p. method_step file n (program_of t.old) s (mine first t.old) p) }
 {
     let name = read_name(c, &t.methods.as_slice()[first..])?;
     let params = read_params(c, n, t)?;

@@ -6,6 +6,7 @@ ghost use Rattle.format.specs.Reading.{Left, counted};
 ghost use Rattle.format.specs.Parse.{method_at, methods_at};
 ghost use Rattle.tables.specs.Views.{methods_of, program_of};
 ghost use Rattle.set.specs.Progress.{mine, Tallied, MoreMethods};
+ghost use Rattle.set.specs.Taken.{Went};
 ghost use Rattle.format.specs.Limits.{all_classes, max_methods};
 
 use crate::method::read_method;
@@ -29,10 +30,9 @@ fn add_methods(
     requires few { n ≤ all_classes }
     requires room { length (methods_of t.old) + count ≤ max_methods }
     requires tallied { Tallied first t.old }
-    ensures file { file_of c.new ≡ file_of c.old }
     ensures tallied { OnOk result (Tallied first t.new) }
     ensures more { OnOk result (MoreMethods count t.old t.new) }
-    ensures gave { Left result (mine first t.new, place_of c.new) (counted (method_at (file_of c.old) n (program_of t.old) s) count (mine first t.old) (place_of c.old)) }
+    ensures went { Went c.old c.new (λ q. Left result (mine first t.new, q)) (λ file p. counted (method_at file n (program_of t.old) s) count (mine first t.old) p) }
 {
     for _ in 0..count {
         read_method(c, n, s, first, t)?;
@@ -50,13 +50,12 @@ pub(crate) fn read_methods(
     requires few { n ≤ all_classes }
     requires whole { count_methods (program_of t.old) ≡ length (methods_of t.old) }
     requires tallied { Tallied (length (methods_of t.old)) t.old }
-    ensures file { file_of c.new ≡ file_of c.old }
     ensures first { IfOk result (λ k. k.first ≡ length (methods_of t.old)) }
     ensures tallied { IfOk result (λ k. Tallied k.first t.new) }
     ensures more { IfOk result (λ k. MoreMethods k.count t.old t.new) }
-    ensures gave { MatchResult result
-        (λ k. methods_at (file_of c.old) n (program_of t.old) s (place_of c.old) ≡ Ok (mine k.first t.new, place_of c.new))
-        (λ e. methods_at (file_of c.old) n (program_of t.old) s (place_of c.old) ≡ Err e) }
+    ensures went { Went c.old c.new
+        (λ q X. MatchResult result (λ k. X ≡ Ok (mine k.first t.new, q)) (λ e. X ≡ Err e))
+        (λ file p. methods_at file n (program_of t.old) s p) }
 {
     let first = t.methods.len();
     let count = read_more(c, first, MAX_METHODS)?;

@@ -7,7 +7,7 @@ ghost use Rattle.format.specs.Parse.{params_at, code_at, handlers_at, field_at};
 ghost use Rattle.tables.specs.Views.{fields_of, params_of, instrs_of, handlers_of};
 ghost use Rattle.set.specs.Counts.{more_at, code_count_at};
 ghost use Rattle.set.specs.Grown.{Grew, lists_of};
-ghost use Rattle.set.specs.Taken.{Took};
+ghost use Rattle.set.specs.Taken.{Took, Went};
 
 use crate::items::at_most;
 use crate::table::grow;
@@ -55,10 +55,9 @@ fn read_code_count(c: &mut Cursor, used: usize) -> Result<usize, TableFault>
 pub(crate) fn read_params(c: &mut Cursor, n: u32, t: &mut Tables) -> Result<Span, TableFault>
     requires few { n ≤ all_classes }
     requires room { length (params_of t.old) + max_params ≤ all_params }
-    ensures file { file_of c.new ≡ file_of c.old }
     ensures rest { lists_of t.new ≡ record (lists_of t.old) { params = params_of t.new } }
     ensures most { IfOk result (λ s. s.count ≤ max_params) }
-    ensures gave { Grew result (params_of t.old) (params_of t.new) (place_of c.new) (params_at (file_of c.old) n (place_of c.old)) }
+    ensures went { Went c.old c.new (Grew result (params_of t.old) (params_of t.new)) (λ file p. params_at file n p) }
 {
     let count = at_most(c, MAX_PARAMS as u32)?;
     grow(c, n, count as usize, &mut t.params)
@@ -66,9 +65,8 @@ pub(crate) fn read_params(c: &mut Cursor, n: u32, t: &mut Tables) -> Result<Span
 
 // The code of a method.
 pub(crate) fn read_code(c: &mut Cursor, t: &mut Tables) -> Result<Span, TableFault>
-    ensures file { file_of c.new ≡ file_of c.old }
     ensures rest { lists_of t.new ≡ record (lists_of t.old) { instrs = instrs_of t.new } }
-    ensures gave { Grew result (instrs_of t.old) (instrs_of t.new) (place_of c.new) (code_at (file_of c.old) (length (instrs_of t.old)) (place_of c.old)) }
+    ensures went { Went c.old c.new (Grew result (instrs_of t.old) (instrs_of t.new)) (λ file p. code_at file (length (instrs_of t.old)) p) }
 {
     let count = read_code_count(c, t.instrs.len())?;
     grow(c, 0, count, &mut t.instrs)
@@ -76,9 +74,8 @@ pub(crate) fn read_code(c: &mut Cursor, t: &mut Tables) -> Result<Span, TableFau
 
 // The handlers of a method.
 pub(crate) fn read_handlers(c: &mut Cursor, t: &mut Tables) -> Result<Span, TableFault>
-    ensures file { file_of c.new ≡ file_of c.old }
     ensures rest { lists_of t.new ≡ record (lists_of t.old) { handlers = handlers_of t.new } }
-    ensures gave { Grew result (handlers_of t.old) (handlers_of t.new) (place_of c.new) (handlers_at (file_of c.old) (length (handlers_of t.old)) (place_of c.old)) }
+    ensures went { Went c.old c.new (Grew result (handlers_of t.old) (handlers_of t.new)) (λ file p. handlers_at file (length (handlers_of t.old)) p) }
 {
     let count = read_more(c, t.handlers.len(), MAX_HANDLERS)?;
     grow(c, 0, count, &mut t.handlers)
@@ -94,10 +91,9 @@ pub(crate) fn read_fields(
     requires few { n ≤ all_classes }
     requires above { inherited ≤ 65536 }
     requires room { length (fields_of t.old) + max_fields ≤ all_fields }
-    ensures file { file_of c.new ≡ file_of c.old }
     ensures rest { lists_of t.new ≡ record (lists_of t.old) { fields = fields_of t.new } }
     ensures most { IfOk result (λ s. s.count ≤ max_fields) }
-    ensures gave { Grew result (fields_of t.old) (fields_of t.new) (place_of c.new) (then (more_at (file_of c.old) inherited max_fields (place_of c.old)) (λ k q. counted (field_at (file_of c.old) n) k [] q)) }
+    ensures went { Went c.old c.new (Grew result (fields_of t.old) (fields_of t.new)) (λ file p. then (more_at file inherited max_fields p) (λ k q. counted (field_at file n) k [] q)) }
 {
     let count = read_more(c, inherited, MAX_FIELDS)?;
     grow(c, n, count, &mut t.fields)

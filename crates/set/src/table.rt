@@ -5,7 +5,7 @@ ghost use Rattle.filled.specs.Items.{items_of};
 ghost use Rattle.format.specs.Reading.{Read, counted};
 ghost use Rattle.format.specs.Limits.{all_classes};
 ghost use Rattle.set.specs.Grown.{Grew};
-ghost use Rattle.set.specs.Taken.{Took};
+ghost use Rattle.set.specs.Taken.{Took, Went};
 
 use filled::filled::Filled;
 use format::fault::TableFault;
@@ -31,11 +31,10 @@ pub(crate) fn grow<T: Item, const N: usize>(
 ) -> Result<Span, TableFault>
     requires few { n ≤ all_classes }
     requires room { length (items_of table.old) + count ≤ N }
-    ensures file { file_of c.new ≡ file_of c.old }
     ensures front { take (length (items_of table.old)) (items_of table.new) ≡ items_of table.old }
     ensures longer { length (items_of table.old) ≤ length (items_of table.new) }
     ensures size { IfOk result (λ s. s.count ≡ count) }
-    ensures gave { Grew result (items_of table.old) (items_of table.new) (place_of c.new) (counted (T.Item.at (file_of c.old) n) count [] (place_of c.old)) }
+    ensures went { Went c.old c.new (Grew result (items_of table.old) (items_of table.new)) (λ file p. counted (T.Item.at file n) count [] p) }
 {
     let first = table.len();
     for _ in 0..count {

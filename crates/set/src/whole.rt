@@ -5,6 +5,7 @@ ghost use Rattle.format.specs.Reading.{Left};
 ghost use Rattle.format.specs.Parse.{classes_at, parse};
 ghost use Rattle.tables.specs.Views.{classes_of, program_of};
 ghost use Rattle.set.specs.Progress.{Full};
+ghost use Rattle.set.specs.Taken.{Went};
 ghost use Rattle.format.specs.Limits.{all_classes, max_classes};
 
 use crate::class::read_class;
@@ -20,9 +21,8 @@ fn read_classes(c: &mut Cursor, n: u32, count: u32, t: &mut Tables) -> Result<()
     requires few { n ≤ all_classes }
     requires room { length (classes_of t.old) + count ≤ max_classes }
     requires full { Full t.old }
-    ensures file { file_of c.new ≡ file_of c.old }
     ensures full { OnOk result (Full t.new) }
-    ensures gave { Left result (program_of t.new, place_of c.new) (classes_at (file_of c.old) n count (program_of t.old) (place_of c.old)) }
+    ensures went { Went c.old c.new (λ q. Left result (program_of t.new, q)) (λ file p. classes_at file n count (program_of t.old) p) }
 {
     for _ in 0..count {
         read_class(c, n, t)?;

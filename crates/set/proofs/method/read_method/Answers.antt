@@ -23,10 +23,12 @@ returns-in_err-name c =
     let file = file_of c.args.c.now in
     let p = err_from_is_err_and c.from_residual.result c.from_residual.ensures.1 in
     rw (p.1, p.2) (record {
-      file = c.in_err-name.ensures.file;
       tallied = tt;
       more = tt;
-      gave = no_name file c.args.n (program_of t) c.args.s (mine c.args.first t) (place_of c.args.c.now) c.in_err-name.field-0.0 (names_mine file t c.args.first (place_of c.args.c.now) _ c.as_slice.ensures.items ∙ c.in_err-name.ensures.gave);
+      went = record {
+        file = c.in_err-name.ensures.file;
+        gave = no_name file c.args.n (program_of t) c.args.s (mine c.args.first t) (place_of c.args.c.now) c.in_err-name.field-0.0 (names_mine file t c.args.first (place_of c.args.c.now) _ c.as_slice.ensures.items ∙ c.in_err-name.ensures.gave);
+      };
     })
 
 pub returns-in_err-params : goal.returns-in_err-params
@@ -37,10 +39,12 @@ returns-in_err-params c =
     let f_name = c.in_ok-name.ensures.file in
     let p = err_from_is_err_and c.from_residual-in_err-params.result c.from_residual-in_err-params.ensures.1 in
     rw (p.1, p.2) (record {
-      file = c.in_err-params.ensures.file ∙ f_name;
       tallied = tt;
       more = tt;
-      gave = no_params file c.args.n (program_of t) c.args.s (mine c.args.first t) (place_of c.args.c.now) _ _ a_name c.in_err-params.field-0.0 (moved (λ x. params_at x c.args.n (place_of c.read_name.new.c)) f_name c.in_err-params.ensures.gave);
+      went = record {
+        file = c.in_err-params.ensures.went.file ∙ f_name;
+        gave = no_params file c.args.n (program_of t) c.args.s (mine c.args.first t) (place_of c.args.c.now) _ _ a_name c.in_err-params.field-0.0 (moved (λ x. params_at x c.args.n (place_of c.read_name.new.c)) f_name c.in_err-params.ensures.went.gave);
+      };
     })
 
 pub returns-in_err-result : goal.returns-in_err-result
@@ -49,17 +53,19 @@ returns-in_err-result c =
     let file = file_of c.args.c.now in
     let a_name = names_mine file t c.args.first (place_of c.args.c.now) _ c.as_slice.ensures.items ∙ c.in_ok-name.ensures.gave in
     let f_name = c.in_ok-name.ensures.file in
-    let a_params = moved (λ x. params_at x c.args.n (place_of c.read_name.new.c)) f_name c.in_ok-params.ensures.gave.0 in
-    let f_params = c.in_ok-params.ensures.file ∙ f_name in
+    let a_params = moved (λ x. params_at x c.args.n (place_of c.read_name.new.c)) f_name c.in_ok-params.ensures.went.gave.0 in
+    let f_params = c.in_ok-params.ensures.went.file ∙ f_name in
     let ps = part c.in_ok-params.params (params_of c.read_params.new.t) in
-    let kept = program_kept t c.read_params.new.t (params_extend t c.read_params.new.t c.in_ok-params.params c.in_ok-params.ensures.rest c.in_ok-params.ensures.gave.1) in
+    let kept = program_kept t c.read_params.new.t (params_extend t c.read_params.new.t c.in_ok-params.params c.in_ok-params.ensures.rest c.in_ok-params.ensures.went.gave.1) in
     let p = err_from_is_err_and c.from_residual-in_err-result.result c.from_residual-in_err-result.ensures.1 in
     rw (p.1, p.2) (record {
-      file = c.in_err-result.ensures.file ∙ f_params;
       tallied = tt;
       more = tt;
-      gave = no_result file c.args.n (program_of t) c.args.s (mine c.args.first t) (place_of c.args.c.now) _ _ a_name _ _ a_params c.in_err-result.field-0.0 (moved (λ x. result_at x c.args.n (program_of t) c.args.s c.in_ok-name.name ps (place_of c.read_params.new.c)) f_params
-          (sym (ap (λ P. result_at (file_of c.read_params.new.c) c.args.n P c.args.s c.in_ok-name.name ps (place_of c.read_params.new.c)) kept) ∙ c.in_err-result.ensures.gave));
+      went = record {
+        file = c.in_err-result.ensures.file ∙ f_params;
+        gave = no_result file c.args.n (program_of t) c.args.s (mine c.args.first t) (place_of c.args.c.now) _ _ a_name _ _ a_params c.in_err-result.field-0.0 (moved (λ x. result_at x c.args.n (program_of t) c.args.s c.in_ok-name.name ps (place_of c.read_params.new.c)) f_params
+            (sym (ap (λ P. result_at (file_of c.read_params.new.c) c.args.n P c.args.s c.in_ok-name.name ps (place_of c.read_params.new.c)) kept) ∙ c.in_err-result.ensures.gave));
+      };
     })
 
 pub returns-in_err-height : goal.returns-in_err-height
@@ -68,19 +74,21 @@ returns-in_err-height c =
     let file = file_of c.args.c.now in
     let a_name = names_mine file t c.args.first (place_of c.args.c.now) _ c.as_slice.ensures.items ∙ c.in_ok-name.ensures.gave in
     let f_name = c.in_ok-name.ensures.file in
-    let a_params = moved (λ x. params_at x c.args.n (place_of c.read_name.new.c)) f_name c.in_ok-params.ensures.gave.0 in
-    let f_params = c.in_ok-params.ensures.file ∙ f_name in
+    let a_params = moved (λ x. params_at x c.args.n (place_of c.read_name.new.c)) f_name c.in_ok-params.ensures.went.gave.0 in
+    let f_params = c.in_ok-params.ensures.went.file ∙ f_name in
     let ps = part c.in_ok-params.params (params_of c.read_params.new.t) in
-    let kept = program_kept t c.read_params.new.t (params_extend t c.read_params.new.t c.in_ok-params.params c.in_ok-params.ensures.rest c.in_ok-params.ensures.gave.1) in
+    let kept = program_kept t c.read_params.new.t (params_extend t c.read_params.new.t c.in_ok-params.params c.in_ok-params.ensures.rest c.in_ok-params.ensures.went.gave.1) in
     let a_result = moved (λ x. result_at x c.args.n (program_of t) c.args.s c.in_ok-name.name ps (place_of c.read_params.new.c)) f_params
     (sym (ap (λ P. result_at (file_of c.read_params.new.c) c.args.n P c.args.s c.in_ok-name.name ps (place_of c.read_params.new.c)) kept) ∙ c.in_ok-result.ensures.gave) in
     let f_result = c.in_ok-result.ensures.file ∙ f_params in
     let p = err_from_is_err_and c.from_residual-in_err-height.result c.from_residual-in_err-height.ensures.1 in
     rw (p.1, p.2) (record {
-      file = c.in_err-height.ensures.file ∙ f_result;
       tallied = tt;
       more = tt;
-      gave = no_height file c.args.n (program_of t) c.args.s (mine c.args.first t) (place_of c.args.c.now) _ _ a_name _ _ a_params _ _ a_result c.in_err-height.field-0.0 (moved (λ x. at_most x max_height (place_of c.read_result.new.c)) f_result c.in_err-height.ensures.gave);
+      went = record {
+        file = c.in_err-height.ensures.file ∙ f_result;
+        gave = no_height file c.args.n (program_of t) c.args.s (mine c.args.first t) (place_of c.args.c.now) _ _ a_name _ _ a_params _ _ a_result c.in_err-height.field-0.0 (moved (λ x. at_most x max_height (place_of c.read_result.new.c)) f_result c.in_err-height.ensures.gave);
+      };
     })
 
 pub returns-in_err-extras : goal.returns-in_err-extras
@@ -89,10 +97,10 @@ returns-in_err-extras c =
     let file = file_of c.args.c.now in
     let a_name = names_mine file t c.args.first (place_of c.args.c.now) _ c.as_slice.ensures.items ∙ c.in_ok-name.ensures.gave in
     let f_name = c.in_ok-name.ensures.file in
-    let a_params = moved (λ x. params_at x c.args.n (place_of c.read_name.new.c)) f_name c.in_ok-params.ensures.gave.0 in
-    let f_params = c.in_ok-params.ensures.file ∙ f_name in
+    let a_params = moved (λ x. params_at x c.args.n (place_of c.read_name.new.c)) f_name c.in_ok-params.ensures.went.gave.0 in
+    let f_params = c.in_ok-params.ensures.went.file ∙ f_name in
     let ps = part c.in_ok-params.params (params_of c.read_params.new.t) in
-    let kept = program_kept t c.read_params.new.t (params_extend t c.read_params.new.t c.in_ok-params.params c.in_ok-params.ensures.rest c.in_ok-params.ensures.gave.1) in
+    let kept = program_kept t c.read_params.new.t (params_extend t c.read_params.new.t c.in_ok-params.params c.in_ok-params.ensures.rest c.in_ok-params.ensures.went.gave.1) in
     let a_result = moved (λ x. result_at x c.args.n (program_of t) c.args.s c.in_ok-name.name ps (place_of c.read_params.new.c)) f_params
     (sym (ap (λ P. result_at (file_of c.read_params.new.c) c.args.n P c.args.s c.in_ok-name.name ps (place_of c.read_params.new.c)) kept) ∙ c.in_ok-result.ensures.gave) in
     let f_result = c.in_ok-result.ensures.file ∙ f_params in
@@ -100,11 +108,13 @@ returns-in_err-extras c =
     let f_height = c.in_ok-height.ensures.file ∙ f_result in
     let p = err_from_is_err_and c.from_residual-in_err-extras.result c.from_residual-in_err-extras.ensures.1 in
     rw (p.1, p.2) (record {
-      file = c.in_err-extras.ensures.took.file ∙ f_height;
       tallied = tt;
       more = tt;
-      gave = no_extras file c.args.n (program_of t) c.args.s (mine c.args.first t) (place_of c.args.c.now) _ _ a_name _ _ a_params _ _ a_result _ _ a_height c.in_err-extras.field-0.0 (moved (λ x. extras_at x (length ps) (place_of c.at_most.new.c)) f_height
-          (ap (λ k. extras_at (file_of c.at_most.new.c) k (place_of c.at_most.new.c)) (length_part c.in_ok-params.params (params_of c.read_params.new.t) (behind_within c.in_ok-params.ensures.gave.1)) ∙ c.in_err-extras.ensures.took.gave));
+      went = record {
+        file = c.in_err-extras.ensures.took.file ∙ f_height;
+        gave = no_extras file c.args.n (program_of t) c.args.s (mine c.args.first t) (place_of c.args.c.now) _ _ a_name _ _ a_params _ _ a_result _ _ a_height c.in_err-extras.field-0.0 (moved (λ x. extras_at x (length ps) (place_of c.at_most.new.c)) f_height
+            (ap (λ k. extras_at (file_of c.at_most.new.c) k (place_of c.at_most.new.c)) (length_part c.in_ok-params.params (params_of c.read_params.new.t) (behind_within c.in_ok-params.ensures.went.gave.1)) ∙ c.in_err-extras.ensures.took.gave));
+      };
     })
 
 pub returns-in_err-code : goal.returns-in_err-code
@@ -113,25 +123,27 @@ returns-in_err-code c =
     let file = file_of c.args.c.now in
     let a_name = names_mine file t c.args.first (place_of c.args.c.now) _ c.as_slice.ensures.items ∙ c.in_ok-name.ensures.gave in
     let f_name = c.in_ok-name.ensures.file in
-    let a_params = moved (λ x. params_at x c.args.n (place_of c.read_name.new.c)) f_name c.in_ok-params.ensures.gave.0 in
-    let f_params = c.in_ok-params.ensures.file ∙ f_name in
+    let a_params = moved (λ x. params_at x c.args.n (place_of c.read_name.new.c)) f_name c.in_ok-params.ensures.went.gave.0 in
+    let f_params = c.in_ok-params.ensures.went.file ∙ f_name in
     let ps = part c.in_ok-params.params (params_of c.read_params.new.t) in
-    let kept = program_kept t c.read_params.new.t (params_extend t c.read_params.new.t c.in_ok-params.params c.in_ok-params.ensures.rest c.in_ok-params.ensures.gave.1) in
+    let kept = program_kept t c.read_params.new.t (params_extend t c.read_params.new.t c.in_ok-params.params c.in_ok-params.ensures.rest c.in_ok-params.ensures.went.gave.1) in
     let a_result = moved (λ x. result_at x c.args.n (program_of t) c.args.s c.in_ok-name.name ps (place_of c.read_params.new.c)) f_params
     (sym (ap (λ P. result_at (file_of c.read_params.new.c) c.args.n P c.args.s c.in_ok-name.name ps (place_of c.read_params.new.c)) kept) ∙ c.in_ok-result.ensures.gave) in
     let f_result = c.in_ok-result.ensures.file ∙ f_params in
     let a_height = moved (λ x. at_most x max_height (place_of c.read_result.new.c)) f_result c.in_ok-height.ensures.gave in
     let f_height = c.in_ok-height.ensures.file ∙ f_result in
     let a_extras = moved (λ x. extras_at x (length ps) (place_of c.at_most.new.c)) f_height
-    (ap (λ k. extras_at (file_of c.at_most.new.c) k (place_of c.at_most.new.c)) (length_part c.in_ok-params.params (params_of c.read_params.new.t) (behind_within c.in_ok-params.ensures.gave.1)) ∙ c.in_ok-extras.ensures.took.gave) in
+    (ap (λ k. extras_at (file_of c.at_most.new.c) k (place_of c.at_most.new.c)) (length_part c.in_ok-params.params (params_of c.read_params.new.t) (behind_within c.in_ok-params.ensures.went.gave.1)) ∙ c.in_ok-extras.ensures.took.gave) in
     let f_extras = c.in_ok-extras.ensures.took.file ∙ f_height in
     let p = err_from_is_err_and c.from_residual-in_err-code.result c.from_residual-in_err-code.ensures.1 in
     rw (p.1, p.2) (record {
-      file = c.in_err-code.ensures.file ∙ f_extras;
       tallied = tt;
       more = tt;
-      gave = no_code file c.args.n (program_of t) c.args.s (mine c.args.first t) (place_of c.args.c.now) _ _ a_name _ _ a_params _ _ a_result _ _ a_height _ _ a_extras c.in_err-code.field-0.0 (moved (λ x. code_at x (program_code (program_of t) + count_code (mine c.args.first t)) (place_of c.read_more.new.c)) f_extras
-          (sym (ap (λ k. code_at (file_of c.read_more.new.c) k (place_of c.read_more.new.c)) (ap length (kept_instrs c.in_ok-params.ensures.rest) ∙ c.requires.tallied.code)) ∙ c.in_err-code.ensures.gave));
+      went = record {
+        file = c.in_err-code.ensures.went.file ∙ f_extras;
+        gave = no_code file c.args.n (program_of t) c.args.s (mine c.args.first t) (place_of c.args.c.now) _ _ a_name _ _ a_params _ _ a_result _ _ a_height _ _ a_extras c.in_err-code.field-0.0 (moved (λ x. code_at x (program_code (program_of t) + count_code (mine c.args.first t)) (place_of c.read_more.new.c)) f_extras
+            (sym (ap (λ k. code_at (file_of c.read_more.new.c) k (place_of c.read_more.new.c)) (ap length (kept_instrs c.in_ok-params.ensures.rest) ∙ c.requires.tallied.code)) ∙ c.in_err-code.ensures.went.gave));
+      };
     })
 
 pub returns-in_err-handlers : goal.returns-in_err-handlers
@@ -140,28 +152,30 @@ returns-in_err-handlers c =
     let file = file_of c.args.c.now in
     let a_name = names_mine file t c.args.first (place_of c.args.c.now) _ c.as_slice.ensures.items ∙ c.in_ok-name.ensures.gave in
     let f_name = c.in_ok-name.ensures.file in
-    let a_params = moved (λ x. params_at x c.args.n (place_of c.read_name.new.c)) f_name c.in_ok-params.ensures.gave.0 in
-    let f_params = c.in_ok-params.ensures.file ∙ f_name in
+    let a_params = moved (λ x. params_at x c.args.n (place_of c.read_name.new.c)) f_name c.in_ok-params.ensures.went.gave.0 in
+    let f_params = c.in_ok-params.ensures.went.file ∙ f_name in
     let ps = part c.in_ok-params.params (params_of c.read_params.new.t) in
-    let kept = program_kept t c.read_params.new.t (params_extend t c.read_params.new.t c.in_ok-params.params c.in_ok-params.ensures.rest c.in_ok-params.ensures.gave.1) in
+    let kept = program_kept t c.read_params.new.t (params_extend t c.read_params.new.t c.in_ok-params.params c.in_ok-params.ensures.rest c.in_ok-params.ensures.went.gave.1) in
     let a_result = moved (λ x. result_at x c.args.n (program_of t) c.args.s c.in_ok-name.name ps (place_of c.read_params.new.c)) f_params
     (sym (ap (λ P. result_at (file_of c.read_params.new.c) c.args.n P c.args.s c.in_ok-name.name ps (place_of c.read_params.new.c)) kept) ∙ c.in_ok-result.ensures.gave) in
     let f_result = c.in_ok-result.ensures.file ∙ f_params in
     let a_height = moved (λ x. at_most x max_height (place_of c.read_result.new.c)) f_result c.in_ok-height.ensures.gave in
     let f_height = c.in_ok-height.ensures.file ∙ f_result in
     let a_extras = moved (λ x. extras_at x (length ps) (place_of c.at_most.new.c)) f_height
-    (ap (λ k. extras_at (file_of c.at_most.new.c) k (place_of c.at_most.new.c)) (length_part c.in_ok-params.params (params_of c.read_params.new.t) (behind_within c.in_ok-params.ensures.gave.1)) ∙ c.in_ok-extras.ensures.took.gave) in
+    (ap (λ k. extras_at (file_of c.at_most.new.c) k (place_of c.at_most.new.c)) (length_part c.in_ok-params.params (params_of c.read_params.new.t) (behind_within c.in_ok-params.ensures.went.gave.1)) ∙ c.in_ok-extras.ensures.took.gave) in
     let f_extras = c.in_ok-extras.ensures.took.file ∙ f_height in
     let a_code = moved (λ x. code_at x (program_code (program_of t) + count_code (mine c.args.first t)) (place_of c.read_more.new.c)) f_extras
-    (sym (ap (λ k. code_at (file_of c.read_more.new.c) k (place_of c.read_more.new.c)) (ap length (kept_instrs c.in_ok-params.ensures.rest) ∙ c.requires.tallied.code)) ∙ c.in_ok-code.ensures.gave.0) in
-    let f_code = c.in_ok-code.ensures.file ∙ f_extras in
+    (sym (ap (λ k. code_at (file_of c.read_more.new.c) k (place_of c.read_more.new.c)) (ap length (kept_instrs c.in_ok-params.ensures.rest) ∙ c.requires.tallied.code)) ∙ c.in_ok-code.ensures.went.gave.0) in
+    let f_code = c.in_ok-code.ensures.went.file ∙ f_extras in
     let p = err_from_is_err_and c.from_residual-in_err-handlers.result c.from_residual-in_err-handlers.ensures.1 in
     rw (p.1, p.2) (record {
-      file = c.in_err-handlers.ensures.file ∙ f_code;
       tallied = tt;
       more = tt;
-      gave = no_handlers file c.args.n (program_of t) c.args.s (mine c.args.first t) (place_of c.args.c.now) _ _ a_name _ _ a_params _ _ a_result _ _ a_height _ _ a_extras _ _ a_code c.in_err-handlers.field-0.0 (moved (λ x. handlers_at x (program_handlers (program_of t) + count_handlers (mine c.args.first t)) (place_of c.read_code.new.c)) f_code
-          (sym (ap (λ k. handlers_at (file_of c.read_code.new.c) k (place_of c.read_code.new.c)) (ap length (kept_handlers c.in_ok-code.ensures.rest ∙ kept_handlers c.in_ok-params.ensures.rest) ∙ c.requires.tallied.handlers)) ∙ c.in_err-handlers.ensures.gave));
+      went = record {
+        file = c.in_err-handlers.ensures.went.file ∙ f_code;
+        gave = no_handlers file c.args.n (program_of t) c.args.s (mine c.args.first t) (place_of c.args.c.now) _ _ a_name _ _ a_params _ _ a_result _ _ a_height _ _ a_extras _ _ a_code c.in_err-handlers.field-0.0 (moved (λ x. handlers_at x (program_handlers (program_of t) + count_handlers (mine c.args.first t)) (place_of c.read_code.new.c)) f_code
+            (sym (ap (λ k. handlers_at (file_of c.read_code.new.c) k (place_of c.read_code.new.c)) (ap length (kept_handlers c.in_ok-code.ensures.rest ∙ kept_handlers c.in_ok-params.ensures.rest) ∙ c.requires.tallied.handlers)) ∙ c.in_err-handlers.ensures.went.gave));
+      };
     })
 
 pub returns : goal.returns
@@ -170,23 +184,23 @@ returns c =
     let file = file_of c.args.c.now in
     let a_name = names_mine file t c.args.first (place_of c.args.c.now) _ c.as_slice.ensures.items ∙ c.in_ok-name.ensures.gave in
     let f_name = c.in_ok-name.ensures.file in
-    let a_params = moved (λ x. params_at x c.args.n (place_of c.read_name.new.c)) f_name c.in_ok-params.ensures.gave.0 in
-    let f_params = c.in_ok-params.ensures.file ∙ f_name in
+    let a_params = moved (λ x. params_at x c.args.n (place_of c.read_name.new.c)) f_name c.in_ok-params.ensures.went.gave.0 in
+    let f_params = c.in_ok-params.ensures.went.file ∙ f_name in
     let ps = part c.in_ok-params.params (params_of c.read_params.new.t) in
-    let kept = program_kept t c.read_params.new.t (params_extend t c.read_params.new.t c.in_ok-params.params c.in_ok-params.ensures.rest c.in_ok-params.ensures.gave.1) in
+    let kept = program_kept t c.read_params.new.t (params_extend t c.read_params.new.t c.in_ok-params.params c.in_ok-params.ensures.rest c.in_ok-params.ensures.went.gave.1) in
     let a_result = moved (λ x. result_at x c.args.n (program_of t) c.args.s c.in_ok-name.name ps (place_of c.read_params.new.c)) f_params
     (sym (ap (λ P. result_at (file_of c.read_params.new.c) c.args.n P c.args.s c.in_ok-name.name ps (place_of c.read_params.new.c)) kept) ∙ c.in_ok-result.ensures.gave) in
     let f_result = c.in_ok-result.ensures.file ∙ f_params in
     let a_height = moved (λ x. at_most x max_height (place_of c.read_result.new.c)) f_result c.in_ok-height.ensures.gave in
     let f_height = c.in_ok-height.ensures.file ∙ f_result in
     let a_extras = moved (λ x. extras_at x (length ps) (place_of c.at_most.new.c)) f_height
-    (ap (λ k. extras_at (file_of c.at_most.new.c) k (place_of c.at_most.new.c)) (length_part c.in_ok-params.params (params_of c.read_params.new.t) (behind_within c.in_ok-params.ensures.gave.1)) ∙ c.in_ok-extras.ensures.took.gave) in
+    (ap (λ k. extras_at (file_of c.at_most.new.c) k (place_of c.at_most.new.c)) (length_part c.in_ok-params.params (params_of c.read_params.new.t) (behind_within c.in_ok-params.ensures.went.gave.1)) ∙ c.in_ok-extras.ensures.took.gave) in
     let f_extras = c.in_ok-extras.ensures.took.file ∙ f_height in
     let a_code = moved (λ x. code_at x (program_code (program_of t) + count_code (mine c.args.first t)) (place_of c.read_more.new.c)) f_extras
-    (sym (ap (λ k. code_at (file_of c.read_more.new.c) k (place_of c.read_more.new.c)) (ap length (kept_instrs c.in_ok-params.ensures.rest) ∙ c.requires.tallied.code)) ∙ c.in_ok-code.ensures.gave.0) in
-    let f_code = c.in_ok-code.ensures.file ∙ f_extras in
+    (sym (ap (λ k. code_at (file_of c.read_more.new.c) k (place_of c.read_more.new.c)) (ap length (kept_instrs c.in_ok-params.ensures.rest) ∙ c.requires.tallied.code)) ∙ c.in_ok-code.ensures.went.gave.0) in
+    let f_code = c.in_ok-code.ensures.went.file ∙ f_extras in
     let a_handlers = moved (λ x. handlers_at x (program_handlers (program_of t) + count_handlers (mine c.args.first t)) (place_of c.read_code.new.c)) f_code
-    (sym (ap (λ k. handlers_at (file_of c.read_code.new.c) k (place_of c.read_code.new.c)) (ap length (kept_handlers c.in_ok-code.ensures.rest ∙ kept_handlers c.in_ok-params.ensures.rest) ∙ c.requires.tallied.handlers)) ∙ c.in_ok-handlers.ensures.gave.0) in
+    (sym (ap (λ k. handlers_at (file_of c.read_code.new.c) k (place_of c.read_code.new.c)) (ap length (kept_handlers c.in_ok-code.ensures.rest ∙ kept_handlers c.in_ok-params.ensures.rest) ∙ c.requires.tallied.handlers)) ∙ c.in_ok-handlers.ensures.went.gave.0) in
     let u = c.push_method.new.t in
     let o_params = c.in_ok-params.ensures.rest in
     let o_code = c.in_ok-code.ensures.rest in
@@ -207,14 +221,16 @@ returns c =
       handlers = c.in_ok-handlers.handlers;
     } in
     let methods = c.push_method.ensures.methods ∙ ap (λ xs. xs ++ m ∷ []) (kept_methods o_handlers ∙ (kept_methods o_code ∙ kept_methods o_params)) in
-    let b_params = behind_as refl e_params c.in_ok-params.ensures.gave.1 in
-    let b_code = behind_as (sym (kept_instrs o_params)) e_code c.in_ok-code.ensures.gave.1 in
-    let b_handlers = behind_as (sym (kept_handlers o_code ∙ kept_handlers o_params)) (kept_handlers o_push) c.in_ok-handlers.ensures.gave.1 in
+    let b_params = behind_as refl e_params c.in_ok-params.ensures.went.gave.1 in
+    let b_code = behind_as (sym (kept_instrs o_params)) e_code c.in_ok-code.ensures.went.gave.1 in
+    let b_handlers = behind_as (sym (kept_handlers o_code ∙ kept_handlers o_params)) (kept_handlers o_push) c.in_ok-handlers.ensures.went.gave.1 in
     record {
-      file = c.in_ok-handlers.ensures.file ∙ f_code;
       tallied = tallied_more t u m classes fields methods b_params b_code b_handlers c.args.first c.requires.tallied c.in_ok-params.ensures.most;
       more = method_more t u m classes fields methods b_params b_code b_handlers;
-      gave = one_more file c.args.n (program_of t) c.args.s (mine c.args.first t) (place_of c.args.c.now) _ _ a_name _ _ a_params _ _ a_result _ _ a_height _ _ a_extras _ _ a_code _ _ a_handlers
-          ∙ (ap (λ x. Ok (mine c.args.first t ++ x ∷ [], place_of c.read_handlers.new.c)) (sym (view_as e_params e_code (kept_handlers o_push) m))
-          ∙ ap (λ xs. Ok (xs, place_of c.read_handlers.new.c)) (sym (mine_more t u m classes fields methods b_params b_code b_handlers c.args.first c.requires.tallied)));
+      went = record {
+        file = c.in_ok-handlers.ensures.went.file ∙ f_code;
+        gave = one_more file c.args.n (program_of t) c.args.s (mine c.args.first t) (place_of c.args.c.now) _ _ a_name _ _ a_params _ _ a_result _ _ a_height _ _ a_extras _ _ a_code _ _ a_handlers
+            ∙ (ap (λ x. Ok (mine c.args.first t ++ x ∷ [], place_of c.read_handlers.new.c)) (sym (view_as e_params e_code (kept_handlers o_push) m))
+            ∙ ap (λ xs. Ok (xs, place_of c.read_handlers.new.c)) (sym (mine_more t u m classes fields methods b_params b_code b_handlers c.args.first c.requires.tallied)));
+      };
     }

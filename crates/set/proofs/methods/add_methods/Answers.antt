@@ -26,19 +26,19 @@ returns-in_err-read_method c =
     let file = file_of c.args.c.now in
     let P = program_of c.args.t.now in
     let a = moved (λ x. method_step x c.args.n P c.args.s (mine c.args.first c.loop.t) (place_of c.loop.c)) c.loop.invariant.1
-    (sym (ap (λ Q. method_step (file_of c.loop.c) c.args.n Q c.args.s (mine c.args.first c.loop.t) (place_of c.loop.c)) c.loop.invariant.3.program) ∙ c.in_err-read_method.ensures.gave) in
+    (sym (ap (λ Q. method_step (file_of c.loop.c) c.args.n Q c.args.s (mine c.args.first c.loop.t) (place_of c.loop.c)) c.loop.invariant.3.program) ∙ c.in_err-read_method.ensures.went.gave) in
     let e = counted_step_err (method_at file c.args.n P c.args.s) c.args.count c.loop.counter (mine c.args.first c.loop.t) (place_of c.loop.c) c.in_err-read_method.field-0.0 (omega arith) a in
-    rw (p.1, p.2) (record { file = c.in_err-read_method.ensures.file ∙ c.loop.invariant.1; tallied = tt; more = tt; gave = sym c.loop.invariant.0 ∙ e })
+    rw (p.1, p.2) (record { tallied = tt; more = tt; went = record { file = c.in_err-read_method.ensures.went.file ∙ c.loop.invariant.1; gave = sym c.loop.invariant.0 ∙ e } })
 
 pub loop-preserved : goal.loop-preserved
 loop-preserved c =
     let file = file_of c.args.c.now in
     let P = program_of c.args.t.now in
     let a = moved (λ x. method_step x c.args.n P c.args.s (mine c.args.first c.loop.t) (place_of c.loop.c)) c.loop.invariant.1
-    (sym (ap (λ Q. method_step (file_of c.loop.c) c.args.n Q c.args.s (mine c.args.first c.loop.t) (place_of c.loop.c)) c.loop.invariant.3.program) ∙ c.in_ok-read_method.ensures.gave) in
+    (sym (ap (λ Q. method_step (file_of c.loop.c) c.args.n Q c.args.s (mine c.args.first c.loop.t) (place_of c.loop.c)) c.loop.invariant.3.program) ∙ c.in_ok-read_method.ensures.went.gave) in
     let e = counted_step_ok (method_at file c.args.n P c.args.s) c.args.count c.loop.counter (mine c.args.first c.loop.t) (mine c.args.first c.read_method.new.t) (place_of c.loop.c) (place_of c.read_method.new.c) (omega arith) a in (
       sym e ∙ c.loop.invariant.0,
-      c.in_ok-read_method.ensures.file ∙ c.loop.invariant.1,
+      c.in_ok-read_method.ensures.went.file ∙ c.loop.invariant.1,
       c.in_ok-read_method.ensures.tallied,
       more_by c.loop.counter 1 c.args.t.now c.loop.t c.read_method.new.t c.loop.invariant.3 c.in_ok-read_method.ensures.more,
     )
@@ -46,4 +46,4 @@ loop-preserved c =
 pub returns : goal.returns
 returns c =
     let e = counted_all (method_at (file_of c.args.c.now) c.args.n (program_of c.args.t.now) c.args.s) c.args.count c.loop.counter (mine c.args.first c.loop.t) (place_of c.loop.c) (omega arith) in
-    record { file = c.loop.invariant.1; tallied = c.loop.invariant.2; more = more_as c.loop.counter c.args.count c.args.t.now c.loop.t (omega arith) c.loop.invariant.3; gave = sym c.loop.invariant.0 ∙ e }
+    record { tallied = c.loop.invariant.2; more = more_as c.loop.counter c.args.count c.args.t.now c.loop.t (omega arith) c.loop.invariant.3; went = record { file = c.loop.invariant.1; gave = sym c.loop.invariant.0 ∙ e } }

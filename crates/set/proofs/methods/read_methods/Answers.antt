@@ -21,13 +21,15 @@ returns-in_err-add_methods c =
     let none : mine c.len-first.result t ≡ [] = drop_all c.len-first.result (method_views t) (omega (arith, length_views t, c.len-first.ensures.count)) in
     let a = methods_counted file c.args.n (program_of t) c.args.s (place_of c.args.c.now) c.len-first.result (c.requires.whole ∙ sym c.len-first.ensures.count) in
     let b = moved (λ x. counted (method_at x c.args.n (program_of t) c.args.s) c.in_ok-count.count [] (place_of c.read_more.new.c)) f
-    (sym (ap (λ ms. counted (method_at (file_of c.read_more.new.c) c.args.n (program_of t) c.args.s) c.in_ok-count.count ms (place_of c.read_more.new.c)) none) ∙ c.in_err-add_methods.ensures.gave) in
+    (sym (ap (λ ms. counted (method_at (file_of c.read_more.new.c) c.args.n (program_of t) c.args.s) c.in_ok-count.count ms (place_of c.read_more.new.c)) none) ∙ c.in_err-add_methods.ensures.went.gave) in
     rw (p.1, p.2) (record {
-      file = c.in_err-add_methods.ensures.file ∙ f;
       first = tt;
       tallied = tt;
       more = tt;
-      gave = a ∙ (ap (λ x. then x (λ k q. counted (method_at file c.args.n (program_of t) c.args.s) k [] q)) c.in_ok-count.ensures.took.gave ∙ b);
+      went = record {
+        file = c.in_err-add_methods.ensures.went.file ∙ f;
+        gave = a ∙ (ap (λ x. then x (λ k q. counted (method_at file c.args.n (program_of t) c.args.s) k [] q)) c.in_ok-count.ensures.took.gave ∙ b);
+      };
     })
 
 pub returns : goal.returns
@@ -38,11 +40,13 @@ returns c =
     let none : mine c.len-first.result t ≡ [] = drop_all c.len-first.result (method_views t) (omega (arith, length_views t, c.len-first.ensures.count)) in
     let a = methods_counted file c.args.n (program_of t) c.args.s (place_of c.args.c.now) c.len-first.result (c.requires.whole ∙ sym c.len-first.ensures.count) in
     let b = moved (λ x. counted (method_at x c.args.n (program_of t) c.args.s) c.in_ok-count.count [] (place_of c.read_more.new.c)) f
-    (sym (ap (λ ms. counted (method_at (file_of c.read_more.new.c) c.args.n (program_of t) c.args.s) c.in_ok-count.count ms (place_of c.read_more.new.c)) none) ∙ c.in_ok-add_methods.ensures.gave) in
+    (sym (ap (λ ms. counted (method_at (file_of c.read_more.new.c) c.args.n (program_of t) c.args.s) c.in_ok-count.count ms (place_of c.read_more.new.c)) none) ∙ c.in_ok-add_methods.ensures.went.gave) in
     record {
-      file = c.in_ok-add_methods.ensures.file ∙ f;
       first = c.len-first.ensures.count;
       tallied = c.in_ok-add_methods.ensures.tallied;
       more = c.in_ok-add_methods.ensures.more;
-      gave = a ∙ (ap (λ x. then x (λ k q. counted (method_at file c.args.n (program_of t) c.args.s) k [] q)) c.in_ok-count.ensures.took.gave ∙ b);
+      went = record {
+        file = c.in_ok-add_methods.ensures.went.file ∙ f;
+        gave = a ∙ (ap (λ x. then x (λ k q. counted (method_at file c.args.n (program_of t) c.args.s) k [] q)) c.in_ok-count.ensures.took.gave ∙ b);
+      };
     }

@@ -20,14 +20,17 @@ loop-init g c =
       all = omega arith;
     }
 
-pub returns-in_err-item-clause-gave : goal.returns-in_err-item-clause-gave
-returns-in_err-item-clause-gave g c =
+pub returns-in_err-item-clause-went : goal.returns-in_err-item-clause-went
+returns-in_err-item-clause-went g c =
     let i = c.loop.invariant in
     let p = err_from_is_err_and c.from_residual.result c.from_residual.ensures.1 in
     let mine = drop c.len-first.result (items_of c.loop.table) in
     let read = moved (λ f. g.T.Item.at f c.args.n mine (place_of c.loop.c)) i.file
     (rw (cut_all c.len-first.result c.as_slice.result.now (items_of c.loop.table) c.as_slice.ensures.items) at c.in_err-item.ensures.gave) in
-    rw (p.1, p.2) (sym i.left ∙ counted_err (g.T.Item.at (file_of c.args.c.now) c.args.n) c.args.count c.loop.counter mine (place_of c.loop.c) c.in_err-item.field-0.0 (omega arith) read)
+    rw (p.1, p.2) (record {
+      file = c.in_err-item.ensures.file ∙ i.file;
+      gave = sym i.left ∙ counted_err (g.T.Item.at (file_of c.args.c.now) c.args.n) c.args.count c.loop.counter mine (place_of c.loop.c) c.in_err-item.field-0.0 (omega arith) read;
+    })
 
 pub loop-preserved : goal.loop-preserved
 loop-preserved g c =

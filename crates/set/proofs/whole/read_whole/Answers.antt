@@ -29,7 +29,7 @@ returns-in_err-read_classes c =
     rw (p.1, p.2) (record {
       full = tt;
       gave = no_classes file _ _ a_count c.in_err-read_classes.field-0.0 (moved (λ x. classes_at x (4 + c.in_ok-count.count) c.in_ok-count.count [] (place_of c.at_most.new.c)) f_count
-          (sym (ap (λ P. classes_at (file_of c.at_most.new.c) (4 + c.in_ok-count.count) c.in_ok-count.count P (place_of c.at_most.new.c)) c.clear.ensures.program) ∙ c.in_err-read_classes.ensures.gave));
+          (sym (ap (λ P. classes_at (file_of c.at_most.new.c) (4 + c.in_ok-count.count) c.in_ok-count.count P (place_of c.at_most.new.c)) c.clear.ensures.program) ∙ c.in_err-read_classes.ensures.went.gave));
     })
 
 pub returns-then-not-at_end : goal.returns-then-not-at_end
@@ -38,8 +38,8 @@ returns-then-not-at_end c =
     let a_count = moved (λ x. at_most x max_classes 0) c.new-c.ensures.file (sym (ap (λ p. at_most (file_of c.new-c.result) max_classes p) c.new-c.ensures.place) ∙ c.in_ok-count.ensures.gave) in
     let f_count = c.in_ok-count.ensures.file ∙ c.new-c.ensures.file in
     let a_classes = moved (λ x. classes_at x (4 + c.in_ok-count.count) c.in_ok-count.count [] (place_of c.at_most.new.c)) f_count
-    (sym (ap (λ P. classes_at (file_of c.at_most.new.c) (4 + c.in_ok-count.count) c.in_ok-count.count P (place_of c.at_most.new.c)) c.clear.ensures.program) ∙ c.in_ok-read_classes.ensures.gave) in
-    let f_classes = c.in_ok-read_classes.ensures.file ∙ f_count in
+    (sym (ap (λ P. classes_at (file_of c.at_most.new.c) (4 + c.in_ok-count.count) c.in_ok-count.count P (place_of c.at_most.new.c)) c.clear.ensures.program) ∙ c.in_ok-read_classes.ensures.went.gave) in
+    let f_classes = c.in_ok-read_classes.ensures.went.file ∙ f_count in
     let e = ap (λ (x : List ℕ). leb (length x) (place_of c.read_classes.new.c)) (sym f_classes) ∙ sym c.at_end.ensures in
     record { full = tt; gave = rw c.place.ensures (left_over file _ _ a_count _ _ a_classes (e ∙ c.if-not-at_end.true)) }
 
@@ -49,7 +49,7 @@ returns c =
     let a_count = moved (λ x. at_most x max_classes 0) c.new-c.ensures.file (sym (ap (λ p. at_most (file_of c.new-c.result) max_classes p) c.new-c.ensures.place) ∙ c.in_ok-count.ensures.gave) in
     let f_count = c.in_ok-count.ensures.file ∙ c.new-c.ensures.file in
     let a_classes = moved (λ x. classes_at x (4 + c.in_ok-count.count) c.in_ok-count.count [] (place_of c.at_most.new.c)) f_count
-    (sym (ap (λ P. classes_at (file_of c.at_most.new.c) (4 + c.in_ok-count.count) c.in_ok-count.count P (place_of c.at_most.new.c)) c.clear.ensures.program) ∙ c.in_ok-read_classes.ensures.gave) in
-    let f_classes = c.in_ok-read_classes.ensures.file ∙ f_count in
+    (sym (ap (λ P. classes_at (file_of c.at_most.new.c) (4 + c.in_ok-count.count) c.in_ok-count.count P (place_of c.at_most.new.c)) c.clear.ensures.program) ∙ c.in_ok-read_classes.ensures.went.gave) in
+    let f_classes = c.in_ok-read_classes.ensures.went.file ∙ f_count in
     let e = ap (λ (x : List ℕ). leb (length x) (place_of c.read_classes.new.c)) (sym f_classes) ∙ sym c.at_end.ensures in
     record { full = c.in_ok-read_classes.ensures.full; gave = all_read file _ _ a_count _ _ a_classes (e ∙ c.if-not-at_end.false) }
