@@ -1,5 +1,5 @@
 -- Tables between classes, and while the methods of a class are read, of which the first has the number `first`.
-use Rattle.std.specs.Prelude.{◌≡◌, ℕ, ◌+◌, ◌*◌, ◌≤◌, List, [], ◌∷◌, ◌++◌, length, drop, Ok}
+use Rattle.std.specs.Prelude.{◌≡◌, ℕ, ◌+◌, ◌*◌, ◌≤◌, List, [], ◌∷◌, ◌++◌, length, drop, Ok, Err, Result, MatchResult}
 use Rattle.jinja.specs.Program.{MethodDecl, Program}
 use Rattle.jinja.specs.Lookups.{count_methods}
 use Rattle.format.specs.Limits.{max_params, max_fields}
@@ -36,6 +36,10 @@ pub record Full (t : Tables) : Type 0 where
   pub whole : count_methods (program_of t) ≡ length (methods_of t)
   pub tallied : Tallied (length (methods_of t)) t
   pub fields : length (fields_of t) ≤ max_fields * length (classes_of t)
+
+-- the answer r of a call that leaves s and the tables t is what X says, and the tables stand between two classes
+abbrev pub LeftFull : {R S E : Type 0} → Result R E → Tables → S → Result S E → Type 0
+LeftFull r t s X = MatchResult r (λ _. (X ≡ Ok s) × Full t) (λ e. X ≡ Err e)
 
 -- tables that hold nothing
 pub record Empty (t : Tables) : Type 0 where

@@ -1,10 +1,9 @@
 // A class, read behind those that the tables have.
 ghost use Rattle.std.specs.Prelude.{◌≡◌, ◌+◌, ◌<◌, ◌≤◌, length, OnOk};
 ghost use Rattle.number.specs.Places.{file_of, place_of};
-ghost use Rattle.format.specs.Reading.{Left};
 ghost use Rattle.tables.specs.Views.{classes_of, program_of};
 ghost use Rattle.set.specs.Counts.{below_at};
-ghost use Rattle.set.specs.Progress.{Full, class_step};
+ghost use Rattle.set.specs.Progress.{Full, LeftFull, class_step};
 ghost use Rattle.format.specs.Limits.{all_classes, max_classes};
 ghost use Rattle.set.specs.Taken.{Took, Went};
 
@@ -35,9 +34,8 @@ pub(crate) fn read_class(c: &mut Cursor, n: u32, t: &mut Tables) -> Result<(), T
     requires few { n ≤ all_classes }
     requires room { length (classes_of t.old) < max_classes }
     requires full { Full t.old }
-    ensures full { OnOk result (Full t.new) }
     ensures more { OnOk result (length (classes_of t.new) ≡ length (classes_of t.old) + 1) }
-    ensures went { Went c.old c.new (λ q. Left result (program_of t.new, q)) (λ file p. class_step file n (program_of t.old) p) }
+    ensures went { Went c.old c.new (λ q. LeftFull result t.new (program_of t.new, q)) (λ file p. class_step file n (program_of t.old) p) }
 {
     let superclass = read_superclass(c, t.classes.len())?;
     let inherited = t.row_len(superclass);

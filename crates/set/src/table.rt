@@ -13,7 +13,8 @@ use number::cursor::Cursor;
 use tables::records::Span;
 
 // What stands in a file behind a count, each item in the light of those before it, where there are `n` classes in all.
-// Cursor and `n` are handed on apart: a struct of both is no plainer, since each contract would say that `n` stays.
+// Cursor and `n` are handed on apart, and each reader asks for the bound of `n`: a struct of both, with the bound in its
+// type, is no plainer, since each contract would say that `n` stays.
 pub(crate) trait Item: Copy {
     ghost at: { List ℕ → ℕ → List Self → ℕ → Read Self };
 

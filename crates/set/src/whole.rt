@@ -1,10 +1,9 @@
 // A whole file: its count of classes, its classes and nothing behind them.
 ghost use Rattle.std.specs.Prelude.{◌≡◌, ◌+◌, ◌≤◌, length, OnOk};
 ghost use Rattle.number.specs.Places.{file_of, place_of};
-ghost use Rattle.format.specs.Reading.{Left};
 ghost use Rattle.format.specs.Parse.{classes_at, parse};
 ghost use Rattle.tables.specs.Views.{classes_of, program_of};
-ghost use Rattle.set.specs.Progress.{Full};
+ghost use Rattle.set.specs.Progress.{Full, LeftFull};
 ghost use Rattle.set.specs.Taken.{Went};
 ghost use Rattle.format.specs.Limits.{all_classes, max_classes};
 
@@ -21,8 +20,7 @@ fn read_classes(c: &mut Cursor, n: u32, count: u32, t: &mut Tables) -> Result<()
     requires few { n ≤ all_classes }
     requires room { length (classes_of t.old) + count ≤ max_classes }
     requires full { Full t.old }
-    ensures full { OnOk result (Full t.new) }
-    ensures went { Went c.old c.new (λ q. Left result (program_of t.new, q)) (λ file p. classes_at file n count (program_of t.old) p) }
+    ensures { Went c.old c.new (λ q. LeftFull result t.new (program_of t.new, q)) (λ file p. classes_at file n count (program_of t.old) p) }
 {
     for _ in 0..count {
         read_class(c, n, t)?;
@@ -32,8 +30,7 @@ fn read_classes(c: &mut Cursor, n: u32, count: u32, t: &mut Tables) -> Result<()
 
 // Reads the file into the tables, whatever they held.
 pub(crate) fn read_whole(file: &[u8], t: &mut Tables) -> Result<(), TableFault>
-    ensures full { OnOk result (Full t.new) }
-    ensures gave { Left result (program_of t.new) (parse file.now) }
+    ensures { LeftFull result t.new (program_of t.new) (parse file.now) }
 {
     clear(t);
     let mut c = Cursor::new(file);

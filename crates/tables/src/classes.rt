@@ -35,6 +35,10 @@ impl Tables {
     }
 
     // Whether the way up from `c` comes to `d` within so many steps.
+    //
+    // Four loops climb: this, `nearest` of methods, `row_within` and `field_at` of fields. Each keeps something else on the
+    // way: a test, an option, a sum, an end. Over an iterator upward the library has lemmas for `any` and `sum`, none for
+    // `find_map` and none for an end that falls; four loops alike are plainer than a mix.
     fn climbs(&self, steps: u8, c: ClassNumber, d: ClassNumber) -> bool
         ensures climb { result ≡ climbs (program_of self.now) steps c d }
         ensures all { at_or_below (program_of self.now) c d ≡ (is_class (program_of self.now) c && climbs (program_of self.now) c c d) }

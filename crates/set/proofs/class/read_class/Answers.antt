@@ -23,7 +23,6 @@ returns-in_err-superclass c =
     let file = file_of c.args.c.now in
     let p = err_from_is_err_and c.from_residual.result c.from_residual.ensures.1 in
     rw (p.1, p.2) (record {
-      full = tt;
       more = tt;
       went = record {
         file = c.in_err-superclass.ensures.file;
@@ -39,7 +38,6 @@ returns-in_err-fields c =
     let f_superclass = c.in_ok-superclass.ensures.file in
     let p = err_from_is_err_and c.from_residual-in_err-fields.result c.from_residual-in_err-fields.ensures.1 in
     rw (p.1, p.2) (record {
-      full = tt;
       more = tt;
       went = record {
         file = c.in_err-fields.ensures.went.file ∙ f_superclass;
@@ -68,7 +66,6 @@ returns-in_err-methods c =
     let kept = fields_kept t c.read_fields.new.t c.in_ok-fields.fields c.in_ok-fields.ensures.rest c.in_ok-fields.ensures.went.gave.1 in
     let p = err_from_is_err_and c.from_residual-in_err-methods.result c.from_residual-in_err-methods.ensures.1 in
     rw (p.1, p.2) (record {
-      full = tt;
       more = tt;
       went = record {
         file = c.in_err-methods.ensures.went.file ∙ f_fields;
@@ -123,11 +120,13 @@ returns c =
     let few : length (fields_of v) ≤ max_fields * (length (classes_of v) + 1) = omega (arith, c.requires.full.fields, b.all, b.first, ap length more.fields, ap length same, c.in_ok-fields.ensures.most) in
     let program = program_push v u k c.push_class.ensures.rest classes in
     record {
-      full = full_push v u k c.push_class.ensures.rest classes c.in_ok-methods.ensures.tallied first all few;
       more = ap length classes ∙ (length_push (classes_of v) k ∙ ap (λ n. n + 1) (ap length same));
       went = record {
         file = c.in_ok-methods.ensures.went.file ∙ f_fields;
-        gave = one_class file c.args.n (program_of t) (place_of c.args.c.now) _ _ a_superclass _ _ a_fields _ _ a_methods
-            ∙ ap (λ P. Ok (P, place_of c.read_methods.new.c)) (sym (program ∙ class_as _ _ _ _ (method_views v) _ k (more.program ∙ kept) more.fields (part_mine v c.in_ok-methods.methods all)));
+        gave = (
+          one_class file c.args.n (program_of t) (place_of c.args.c.now) _ _ a_superclass _ _ a_fields _ _ a_methods
+          ∙ ap (λ P. Ok (P, place_of c.read_methods.new.c)) (sym (program ∙ class_as _ _ _ _ (method_views v) _ k (more.program ∙ kept) more.fields (part_mine v c.in_ok-methods.methods all))),
+          full_push v u k c.push_class.ensures.rest classes c.in_ok-methods.ensures.tallied first all few,
+        );
       };
     }

@@ -13,7 +13,7 @@ use Rattle.set.proofs.whole.read_whole.Goals as goal
 pub returns-in_err-count : goal.returns-in_err-count
 returns-in_err-count c =
     let p = err_from_is_err_and c.from_residual.result c.from_residual.ensures.1 in
-    rw (p.1, p.2) (record { full = tt; gave = no_count c.args.file.now c.in_err-count.field-0.0 (moved (λ x. at_most x max_classes 0) c.new-c.ensures.file (sym (ap (λ p. at_most (file_of c.new-c.result) max_classes p) c.new-c.ensures.place) ∙ c.in_err-count.ensures.gave)) })
+    rw (p.1, p.2) (no_count c.args.file.now c.in_err-count.field-0.0 (moved (λ x. at_most x max_classes 0) c.new-c.ensures.file (sym (ap (λ p. at_most (file_of c.new-c.result) max_classes p) c.new-c.ensures.place) ∙ c.in_err-count.ensures.gave)))
 
 pub read_classes-requires : goal.read_classes-requires
 read_classes-requires c =
@@ -26,11 +26,8 @@ returns-in_err-read_classes c =
     let file = c.args.file.now in
     let a_count = moved (λ x. at_most x max_classes 0) c.new-c.ensures.file (sym (ap (λ p. at_most (file_of c.new-c.result) max_classes p) c.new-c.ensures.place) ∙ c.in_ok-count.ensures.gave) in
     let f_count = c.in_ok-count.ensures.file ∙ c.new-c.ensures.file in
-    rw (p.1, p.2) (record {
-      full = tt;
-      gave = no_classes file _ _ a_count c.in_err-read_classes.field-0.0 (moved (λ x. classes_at x (4 + c.in_ok-count.count) c.in_ok-count.count [] (place_of c.at_most.new.c)) f_count
-          (sym (ap (λ P. classes_at (file_of c.at_most.new.c) (4 + c.in_ok-count.count) c.in_ok-count.count P (place_of c.at_most.new.c)) c.clear.ensures.program) ∙ c.in_err-read_classes.ensures.went.gave));
-    })
+    rw (p.1, p.2) (no_classes file _ _ a_count c.in_err-read_classes.field-0.0 (moved (λ x. classes_at x (4 + c.in_ok-count.count) c.in_ok-count.count [] (place_of c.at_most.new.c)) f_count
+          (sym (ap (λ P. classes_at (file_of c.at_most.new.c) (4 + c.in_ok-count.count) c.in_ok-count.count P (place_of c.at_most.new.c)) c.clear.ensures.program) ∙ c.in_err-read_classes.ensures.gave)))
 
 pub returns-then-not-at_end : goal.returns-then-not-at_end
 returns-then-not-at_end c =
@@ -38,10 +35,10 @@ returns-then-not-at_end c =
     let a_count = moved (λ x. at_most x max_classes 0) c.new-c.ensures.file (sym (ap (λ p. at_most (file_of c.new-c.result) max_classes p) c.new-c.ensures.place) ∙ c.in_ok-count.ensures.gave) in
     let f_count = c.in_ok-count.ensures.file ∙ c.new-c.ensures.file in
     let a_classes = moved (λ x. classes_at x (4 + c.in_ok-count.count) c.in_ok-count.count [] (place_of c.at_most.new.c)) f_count
-    (sym (ap (λ P. classes_at (file_of c.at_most.new.c) (4 + c.in_ok-count.count) c.in_ok-count.count P (place_of c.at_most.new.c)) c.clear.ensures.program) ∙ c.in_ok-read_classes.ensures.went.gave) in
-    let f_classes = c.in_ok-read_classes.ensures.went.file ∙ f_count in
+    (sym (ap (λ P. classes_at (file_of c.at_most.new.c) (4 + c.in_ok-count.count) c.in_ok-count.count P (place_of c.at_most.new.c)) c.clear.ensures.program) ∙ c.in_ok-read_classes.ensures.gave.0) in
+    let f_classes = c.in_ok-read_classes.ensures.file ∙ f_count in
     let e = ap (λ (x : List ℕ). leb (length x) (place_of c.read_classes.new.c)) (sym f_classes) ∙ sym c.at_end.ensures in
-    record { full = tt; gave = rw c.place.ensures (left_over file _ _ a_count _ _ a_classes (e ∙ c.if-not-at_end.true)) }
+    rw c.place.ensures (left_over file _ _ a_count _ _ a_classes (e ∙ c.if-not-at_end.true))
 
 pub returns : goal.returns
 returns c =
@@ -49,7 +46,7 @@ returns c =
     let a_count = moved (λ x. at_most x max_classes 0) c.new-c.ensures.file (sym (ap (λ p. at_most (file_of c.new-c.result) max_classes p) c.new-c.ensures.place) ∙ c.in_ok-count.ensures.gave) in
     let f_count = c.in_ok-count.ensures.file ∙ c.new-c.ensures.file in
     let a_classes = moved (λ x. classes_at x (4 + c.in_ok-count.count) c.in_ok-count.count [] (place_of c.at_most.new.c)) f_count
-    (sym (ap (λ P. classes_at (file_of c.at_most.new.c) (4 + c.in_ok-count.count) c.in_ok-count.count P (place_of c.at_most.new.c)) c.clear.ensures.program) ∙ c.in_ok-read_classes.ensures.went.gave) in
-    let f_classes = c.in_ok-read_classes.ensures.went.file ∙ f_count in
+    (sym (ap (λ P. classes_at (file_of c.at_most.new.c) (4 + c.in_ok-count.count) c.in_ok-count.count P (place_of c.at_most.new.c)) c.clear.ensures.program) ∙ c.in_ok-read_classes.ensures.gave.0) in
+    let f_classes = c.in_ok-read_classes.ensures.file ∙ f_count in
     let e = ap (λ (x : List ℕ). leb (length x) (place_of c.read_classes.new.c)) (sym f_classes) ∙ sym c.at_end.ensures in
-    record { full = c.in_ok-read_classes.ensures.full; gave = all_read file _ _ a_count _ _ a_classes (e ∙ c.if-not-at_end.false) }
+    (all_read file _ _ a_count _ _ a_classes (e ∙ c.if-not-at_end.false), c.in_ok-read_classes.ensures.gave.1)
