@@ -9,10 +9,9 @@ use Rattle.jinja.specs.declared.program.Field.{Field}
 use Rattle.jinja.specs.Types.{same_type, same_types}
 use Rattle.jinja.specs.Program.{MethodDecl, ClassDecl, Program}
 use Rattle.jinja.specs.Classes.{maybe, table, superclass_of}
-use Rattle.jinja.specs.Lookups.{Owned, position, own_methods, own_method, methods_from, method_at, count_methods, sees_within, sees, overrides}
-use Rattle.format.specs.Rules.{inherited, heading, override_keeps}
+use Rattle.jinja.specs.Lookups.{Owned, position, own_methods, own_method, methods_from, method_at, count_methods, sees_within, sees}
+use Rattle.format.specs.Rules.{inherited, override_keeps}
 use Rattle.tables.specs.declared.records.ClassRec.{ClassRec}
-use Rattle.tables.specs.declared.records.MethodRec.{MethodRec}
 use Rattle.tables.specs.declared.tables.Tables.{Tables}
 use Rattle.tables.specs.Spans.{part, chained, MethodsWithin}
 use Rattle.tables.specs.Views.{classes_of, fields_of, methods_of, params_of, instrs_of, handlers_of, method_view, method_views, class_view, program_of}

@@ -1,6 +1,5 @@
 // A class, read behind those that the tables have.
 ghost use Rattle.std.specs.Prelude.{◌≡◌, ◌+◌, ◌<◌, ◌≤◌, length, OnOk};
-ghost use Rattle.number.specs.Places.{file_of, place_of};
 ghost use Rattle.tables.specs.Views.{classes_of, program_of};
 ghost use Rattle.set.specs.Counts.{below_at};
 ghost use Rattle.set.specs.Progress.{Full, LeftFull, class_step};

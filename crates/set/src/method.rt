@@ -1,6 +1,5 @@
 // A method of a class, read behind those that the tables have.
-ghost use Rattle.std.specs.Prelude.{◌≡◌, ◌<◌, ◌≤◌, length, OnOk};
-ghost use Rattle.number.specs.Places.{file_of, place_of};
+ghost use Rattle.std.specs.Prelude.{◌<◌, ◌≤◌, length, OnOk};
 ghost use Rattle.format.specs.Reading.{Left};
 ghost use Rattle.format.specs.Parse.{result_at};
 ghost use Rattle.tables.specs.Spans.{part, Within};

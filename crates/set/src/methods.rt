@@ -1,6 +1,5 @@
 // The methods of a class, one behind the other.
 ghost use Rattle.std.specs.Prelude.{◌≡◌, ◌+◌, ◌≤◌, length, IfOk, Ok, Err, MatchResult, OnOk};
-ghost use Rattle.number.specs.Places.{file_of, place_of};
 ghost use Rattle.jinja.specs.Lookups.{count_methods};
 ghost use Rattle.format.specs.Reading.{Left, counted};
 ghost use Rattle.format.specs.Parse.{method_at, methods_at};

@@ -1,5 +1,4 @@
 // Names, each of which stands once among the fields or methods of a class.
-ghost use Rattle.std.specs.Prelude.{◌≡◌};
 ghost use Rattle.format.specs.Parse.{name_at};
 ghost use Rattle.set.specs.Taken.{Took};
 

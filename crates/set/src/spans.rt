@@ -1,6 +1,5 @@
 // The lists of a class and a method: each stands behind its count, and becomes a span of a table.
 ghost use Rattle.std.specs.Prelude.{◌≡◌, ◌+◌, ◌≤◌, [], length, IfOk};
-ghost use Rattle.number.specs.Places.{file_of, place_of};
 ghost use Rattle.format.specs.Limits.{max_params, max_fields, all_classes, all_fields, all_params, max_instrs};
 ghost use Rattle.format.specs.Reading.{then, counted};
 ghost use Rattle.format.specs.Parse.{params_at, code_at, handlers_at, field_at};

@@ -1,6 +1,5 @@
 // Counted items, read one behind the other into a table.
 ghost use Rattle.std.specs.Prelude.{◌≡◌, ℕ, ◌+◌, ◌≤◌, List, [], length, take, IfOk};
-ghost use Rattle.number.specs.Places.{file_of, place_of};
 ghost use Rattle.filled.specs.Items.{items_of};
 ghost use Rattle.format.specs.Reading.{Read, counted};
 ghost use Rattle.format.specs.Limits.{all_classes};

@@ -1,6 +1,5 @@
 // A whole file: its count of classes, its classes and nothing behind them.
-ghost use Rattle.std.specs.Prelude.{◌≡◌, ◌+◌, ◌≤◌, length, OnOk};
-ghost use Rattle.number.specs.Places.{file_of, place_of};
+ghost use Rattle.std.specs.Prelude.{◌+◌, ◌≤◌, length};
 ghost use Rattle.format.specs.Parse.{classes_at, parse};
 ghost use Rattle.tables.specs.Views.{classes_of, program_of};
 ghost use Rattle.set.specs.Progress.{Full, LeftFull};

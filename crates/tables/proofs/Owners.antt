@@ -1,7 +1,7 @@
 -- The methods of the program and of the tables have the same numbers, and their classes are found by them.
 use Rattle.std.proofs.Common.{◌≡◌, ℕ, zero, suc, ◌+◌, ◌-◌, ◌<◌, ◌≤◌, true, eqb, List, [], ◌∷◌, ◌++◌, map, length, get_or, take, drop, Some, None, sym, refl, ap, ◌∙◌, arith, take-add}
 use Rattle.std.specs.List.{slice_get, flat_map, AllByRecursion}
-use Rattle.std.proofs.lemmas.List.{map-append, drop-drop, take_all, take_more, drop_more, drop_all, get_or-take, get_or-map, length-map}
+use Rattle.std.proofs.lemmas.List.{map-append, drop-drop, take_all, take_more, drop_more, drop_all, get_or-map, length-map}
 use Rattle.std.proofs.lemmas.Option.{slice_get-get_or}
 use Rattle.std.proofs.lemmas.Bool.{and_parts, eqb-true}
 use Rattle.jinja.specs.declared.program.Field.{Field}

@@ -1,5 +1,5 @@
 // What a method has: its record by its number, its parameter types, code and handlers, and the class that declares it.
-ghost use Rattle.std.specs.Prelude.{◌≡◌, ℕ, ◌+◌, ◌<◌, IfSome, Some, None, MatchOption};
+ghost use Rattle.std.specs.Prelude.{◌≡◌, ◌+◌, ◌<◌, IfSome, Some, None, MatchOption};
 ghost use Rattle.std.specs.List.{slice_get};
 ghost use Rattle.jinja.specs.Classes.{maybe};
 ghost use Rattle.jinja.specs.Lookups.{method_at};

@@ -125,7 +125,7 @@ returns c =
         file = c.in_ok-methods.ensures.went.file ∙ f_fields;
         gave = (
           one_class file c.args.n (program_of t) (place_of c.args.c.now) _ _ a_superclass _ _ a_fields _ _ a_methods
-          ∙ ap (λ P. Ok (P, place_of c.read_methods.new.c)) (sym (program ∙ class_as _ _ _ _ (method_views v) _ k (more.program ∙ kept) more.fields (part_mine v c.in_ok-methods.methods all))),
+              ∙ ap (λ P. Ok (P, place_of c.read_methods.new.c)) (sym (program ∙ class_as _ _ _ _ (method_views v) _ k (more.program ∙ kept) more.fields (part_mine v c.in_ok-methods.methods all))),
           full_push v u k c.push_class.ensures.rest classes c.in_ok-methods.ensures.tallied first all few,
         );
       };

@@ -1,11 +1,11 @@
 -- Where no method of the class has been read, the counted ones are all of it.
-use Rattle.std.proofs.Common.{◌≡◌, [], length, sym, ap, ◌∙◌, arith}
+use Rattle.std.proofs.Common.{◌≡◌, [], sym, ap, ◌∙◌, arith}
 use Rattle.std.proofs.lemmas.List.{drop_all}
 use Rattle.std.proofs.lemmas.Result.{err_from_is_err_and}
 use Rattle.number.specs.Places.{file_of, place_of}
 use Rattle.format.specs.Reading.{then, counted}
 use Rattle.format.specs.Parse.{method_at}
-use Rattle.tables.specs.Views.{methods_of, method_views, program_of}
+use Rattle.tables.specs.Views.{method_views, program_of}
 use Rattle.tables.proofs.Numbering.{length_views}
 use Rattle.set.specs.Progress.{mine}
 use Rattle.set.proofs.Checked.{methods_counted}

@@ -2,7 +2,7 @@
 use Rattle.std.proofs.Common.{refl, ap, ◌∙◌}
 use Rattle.std.proofs.lemmas.List.Elements.{All-push}
 use Rattle.tables.specs.Spans.{FieldsWithin, MethodsWithin, chained}
-use Rattle.tables.specs.Views.{classes_of, fields_of, methods_of}
+use Rattle.tables.specs.Views.{classes_of}
 use Rattle.set.proofs.push.push_class.Goals as goal
 
 pub invariant_of-t : goal.invariant_of-t

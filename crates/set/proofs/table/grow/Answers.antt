@@ -1,10 +1,10 @@
 -- Each turn puts the item that it read behind those before it.
-use Rattle.std.proofs.Common.{◌≡◌, ◌-◌, ◌<◌, ◌++◌, ◌∷◌, [], length, take, drop, Err, sym, refl, ap, ◌∙◌, arith}
-use Rattle.std.proofs.lemmas.List.{length-drop, length_push, drop_all, drop-append-le, take-append-le, take_all}
+use Rattle.std.proofs.Common.{◌≡◌, ◌-◌, ◌<◌, ◌∷◌, [], length, drop, sym, refl, ap, ◌∙◌, arith}
+use Rattle.std.proofs.lemmas.List.{length_push, drop_all, drop-append-le, take-append-le, take_all}
 use Rattle.std.proofs.lemmas.Result.{err_from_is_err_and}
 use Rattle.number.specs.Places.{file_of, place_of}
 use Rattle.filled.specs.Items.{items_of}
-use Rattle.format.proofs.Counting.{counted_ok, counted_err, counted_all}
+use Rattle.format.proofs.Counting.{counted_ok, counted_err}
 use Rattle.set.proofs.Cut.{cut_all}
 use Rattle.set.proofs.Ways.{moved}
 use Rattle.set.proofs.table.grow.Goals as goal

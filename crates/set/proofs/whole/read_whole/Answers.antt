@@ -27,7 +27,7 @@ returns-in_err-read_classes c =
     let a_count = moved (λ x. at_most x max_classes 0) c.new-c.ensures.file (sym (ap (λ p. at_most (file_of c.new-c.result) max_classes p) c.new-c.ensures.place) ∙ c.in_ok-count.ensures.gave) in
     let f_count = c.in_ok-count.ensures.file ∙ c.new-c.ensures.file in
     rw (p.1, p.2) (no_classes file _ _ a_count c.in_err-read_classes.field-0.0 (moved (λ x. classes_at x (4 + c.in_ok-count.count) c.in_ok-count.count [] (place_of c.at_most.new.c)) f_count
-          (sym (ap (λ P. classes_at (file_of c.at_most.new.c) (4 + c.in_ok-count.count) c.in_ok-count.count P (place_of c.at_most.new.c)) c.clear.ensures.program) ∙ c.in_err-read_classes.ensures.gave)))
+    (sym (ap (λ P. classes_at (file_of c.at_most.new.c) (4 + c.in_ok-count.count) c.in_ok-count.count P (place_of c.at_most.new.c)) c.clear.ensures.program) ∙ c.in_err-read_classes.ensures.gave)))
 
 pub returns-then-not-at_end : goal.returns-then-not-at_end
 returns-then-not-at_end c =

@@ -1,5 +1,5 @@
 -- The way up from a class to another.
-use Rattle.std.proofs.Common.{◌≡◌, ◌-◌, ◌+◌, eqb, sym, refl, ap, ◌∙◌, inl, inr, arith}
+use Rattle.std.proofs.Common.{◌≡◌, ◌-◌, ◌+◌, eqb, sym, refl, ◌∙◌, inl, inr, arith}
 use Rattle.jinja.specs.Classes.{climbs, at_or_below}
 use Rattle.tables.specs.Views.{program_of}
 use Rattle.tables.proofs.Climbs.{climbs_here, climbs_object, climbs_last, climbs_on}

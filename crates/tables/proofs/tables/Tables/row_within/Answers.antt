@@ -1,7 +1,7 @@
 -- The way up, with the fields counted on it.
 use Rattle.std.proofs.Common.{◌≡◌, ◌+◌, ◌-◌, length, ap, ◌∙◌, arith}
 use Rattle.std.proofs.lemmas.List.{length-append}
-use Rattle.jinja.specs.Lookups.{fields_of, fields_within, own_fields}
+use Rattle.jinja.specs.Lookups.{fields_of, fields_within}
 use Rattle.tables.specs.Views.{program_of}
 use Rattle.tables.proofs.Climbs.{row_object, row_last, row_on}
 use Rattle.tables.proofs.tables.Tables.row_within.Goals as goal
