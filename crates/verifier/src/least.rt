@@ -33,13 +33,9 @@ pub fn least_table(
     if workspace.len() < WORKSPACE {
         return Err(LeastTableFault::Short);
     }
-    match accepted.set().tables().sees(class, name) {
-        Some(k) => {
-            write_least(accepted, k, workspace);
-            Ok(())
-        }
-        None => Err(LeastTableFault::Unseen),
-    }
+    let seen = accepted.set().tables().sees(class, name);
+    write_least(accepted, seen.ok_or(LeastTableFault::Unseen)?, workspace);
+    Ok(())
 }
 
 // Writes the least well-typing of the method of number `k`, which there is.
@@ -61,7 +57,7 @@ fn hand_out_rows(method: &Method, workspace: &mut [u16])
     requires { Room (method_framework method.now) workspace.old }
     ensures { take (nodes (method_framework method.now) * width) workspace.new ≡ table_numbers (rows_of (table (method_framework method.now) workspace.old)) (nodes (method_framework method.now)) }
 {
-    // Kept, tried by `chunks_exact_mut`: no invariant can name the rows that such an iterator has written.
+    // Kept, tried by `chunks_exact_mut`: after such a loop nothing is known of the workspace but its length.
     for i in 0..method.count() {
         let from = i * WIDTH;
         method.hand_out(&mut workspace[from..from + WIDTH]);

@@ -1,5 +1,5 @@
 -- What a class sees is a method.
-use Rattle.std.proofs.Common.{sym, ap, ◌∙◌, arith}
+use Rattle.std.proofs.Common.{sym, ap, ◌∙◌}
 use Rattle.jinja.specs.Lookups.{sees}
 use Rattle.tables.specs.declared.tables.Tables.{Tables}
 use Rattle.tables.specs.Views.{program_of}
@@ -8,7 +8,7 @@ use Rattle.verifier.specs.Accepted.{accepted_program}
 use Rattle.verifier.proofs.Kept.{seen_method}
 use Rattle.verifier.proofs.least.least_table.Goals as goal
 
-pub write_least-requires : goal.write_least-requires
-write_least-requires c =
+pub write_least-requires-clause-there : goal.write_least-requires-clause-there
+write_least-requires-clause-there c =
     let same = ap (λ (t : Tables). sees (program_of t) c.args.class c.args.name) (c.tables.ensures ∙ ap tables_of c.set.ensures) in
-    record { there = seen_method (accepted_program c.args.accepted.now) c.args.class c.args.name (sym same ∙ sym c.in-Some.ensures); room = omega arith }
+    seen_method (accepted_program c.args.accepted.now) c.args.class c.args.name (sym same ∙ sym c.sees-seen.ensures ∙ c.in_ok-ok_or.ensures.ok_part)
