@@ -35,6 +35,7 @@ impl<H: Heap> Machine<H> {
             }
             Call::Step => Ok(Reply::Stepped(self.step()?)),
             Call::Run(n) => Ok(Reply::Ran(self.run(n)?)),
+            // Kept, no plainer by `map_err`: the ticket that comes back must be taken apart, as the arm shows.
             Call::End(machine) => match self.end(Ticket { machine }) {
                 Ok(ended) => Ok(Reply::Ended(ended)),
                 Err((refusal, ticket)) => {

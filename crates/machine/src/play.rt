@@ -25,6 +25,7 @@ impl<H: Heap> Machine<H> {
     {
         let ticket = self.begin(class, name, args)?;
         let ran = self.go(n);
+        // Kept, no plainer by `map_err`: a refusal is never reached here, and its ticket must be taken apart.
         match self.end(ticket) {
             Ok(ended) => Ok(Played { ran, ended }),
             Err((_, ticket)) => {

@@ -50,6 +50,7 @@ impl<H: Heap> Machine<H> {
         ensures state { (result, state H.Heap.meaning self.new) ≡ states.run (program self.old) n (state H.Heap.meaning self.old) }
         ensures program { program self.new ≡ program self.old }
     {
+        // Kept, no plainer by an adapter: each step changes the machine, and the count is part of the answer.
         for count in 0..n {
             let last = self.go_on();
             match last {

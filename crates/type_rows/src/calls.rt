@@ -26,6 +26,7 @@ fn arguments_fit(tables: &Tables, frame: &TypeFrame, n: usize, params: &[Ty]) ->
     if params.len() != n {
         return false;
     }
+    // Kept, tried by `zip` and `all`: that each pair fits was not proved from the run of the zipped iterator.
     for (j, param) in params.iter().enumerate() {
         let Some(t) = frame.below(n - 1 - j) else {
             return false;

@@ -18,6 +18,7 @@ use stack::Stack;
 use walk::WIDTH;
 
 /// A stack of types in the first `height` cells, and registers; each number is small.
+// Kept by a rule of the project, fixed memory: a frame is copied whole, so the cells are an array and no `Vec`.
 #[derive(Clone, Copy)]
 pub(crate) struct TypeFrame {
     cells: [u16; CELLS],

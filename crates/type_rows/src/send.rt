@@ -64,6 +64,7 @@ impl<'a> Method<'a> {
 fn place_of(to: Leads, site: Site, e: usize) -> Option<usize>
     ensures { (st : List ty.Ty) (lt : List Cell) → sent_at (leads to site.pc st lt) e ≡ sent_to result st lt }
 {
+    // Kept, no plainer by an enum of edges: the walk knows an edge by its number alone.
     match to {
         Leads::Nowhere => None,
         Leads::Next => (e == 0).then_some(site.pc + 1),

@@ -13,6 +13,7 @@ pub enum VerifierFault {
 
 impl VerifierFault {
     /// The refusal's number, 10 or 11.
+    // Kept, no plainer by `From`: it is the number that users know the refusal by, and no other form of the case.
     pub fn number(self) -> u8
         ensures { result ≡ verifier_fault_number self }
     {
@@ -44,6 +45,7 @@ pub enum LeastTableFault {
 
 impl LeastTableFault {
     /// The refusal's number, 10 or 13.
+    // Kept, no plainer by `From`: it is the number that users know the refusal by, and no other form of the case.
     pub fn number(self) -> u8
         ensures { result ≡ least_table_fault_number self }
     {

@@ -38,6 +38,7 @@ impl LoadFault {
     }
 
     /// The refusal's number, 1 to 11.
+    // Kept, no plainer by `From`: it is the number that users know the refusal by; `number` and `place` differ in type.
     pub fn number(self) -> u8
         ensures { result ≡ load_fault_number self }
     {
