@@ -52,17 +52,17 @@ fn same_again(alloc: Global, file: &[u8], set: &Set) -> Result<bool, AllocError>
 
 // The bytes that a line writes; half a byte at its end is left out.
 fn bytes_of(alloc: Global, text: &str) -> anyhow::Result<Vec<u8>> {
-    let mut digits = Vec::new(alloc);
+    let mut bytes = Vec::new(alloc);
+    // The first digit of a byte. (No list of digits: with it a line takes twice the memory.)
+    let mut first = None;
     for b in text.bytes() {
-        digits.push(digit(b).context("no hexadecimal digit")?)?;
+        let digit = digit(b).context("no hexadecimal digit")?;
+        match first.take() {
+            None => first = Some(digit),
+            Some(high) => bytes.push(high << 4 | digit)?,
+        }
     }
-    let (pairs, _) = digits.as_slice().as_chunks::<2>();
-    Ok(
-        pairs
-            .iter()
-            .map(|[high, low]| high << 4 | low)
-            .collect(alloc)?,
-    )
+    Ok(bytes)
 }
 
 // Uppercase digits are none, unlike in the command, with which this program shares no crate.

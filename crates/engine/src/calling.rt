@@ -24,6 +24,7 @@ use jinja::ty::Ty;
 use tables::tables::Tables;
 
 // Invoke with `n` arguments.
+#[inline(always)]
 pub(crate) fn invoke<H: Heap>(
     program: Program,
     heap: &H,
@@ -46,6 +47,7 @@ pub(crate) fn invoke<H: Heap>(
 }
 
 // The object at `a` is called with `n` arguments.
+#[inline(always)]
 fn call<H: Heap>(
     program: Program,
     heap: &H,
@@ -73,6 +75,7 @@ fn call<H: Heap>(
 
 impl Frames {
     // Whether the `n` topmost operands fit the types, in the order in which they were pushed.
+    #[inline(always)]
     fn arguments_fit<H: Heap>(&self, tables: &Tables, heap: &H, n: usize, types: &[Ty]) -> bool
         requires some { 0 < self.now.count }
         requires high { n ≤ length (top_stack (frames_of self.now)) }
@@ -83,6 +86,7 @@ impl Frames {
     }
 
     // A frame of the method `k` on top, for this object and the `n` topmost operands, where there is room.
+    #[inline(always)]
     fn enter(&mut self, k: usize, this: u16, n: usize, extras: usize) -> Option<Next>
         requires ready { Ready self.old }
         requires high { n ≤ length (top_stack (frames_of self.old)) }

@@ -12,6 +12,7 @@ use tables::tables::Tables;
 
 // The topmost of the lowest `count` frames with a handler that catches an object of class `c`, if there is one. No answer
 // where a frame without a method is on the way.
+#[inline(always)]
 pub(crate) fn find(
     program: Program,
     frames: &[Frame],
@@ -30,6 +31,7 @@ pub(crate) fn find(
 }
 
 // The handler of the frame's method that catches at its place, if there is such a method.
+#[inline(always)]
 fn handler_in(program: Program, frame: &Frame, c: ClassNumber) -> Option<Option<Handler>>
     ensures { result ≡ looked (meaning_of program.entry) c (frame_of frame.now) }
 {
@@ -43,6 +45,7 @@ fn handler_in(program: Program, frame: &Frame, c: ClassNumber) -> Option<Option<
 }
 
 // The first handler that catches.
+#[inline(always)]
 fn catcher(tables: &Tables, handlers: &[Handler], pc: usize, c: ClassNumber) -> Option<Handler>
     ensures { result ≡ catcher (program_of tables.now) handlers.now pc c }
 {
@@ -55,6 +58,7 @@ fn catcher(tables: &Tables, handlers: &[Handler], pc: usize, c: ClassNumber) -> 
 }
 
 // Whether the handler covers the place and catches objects of class `c`.
+#[inline(always)]
 fn catches(tables: &Tables, handler: Handler, pc: usize, c: ClassNumber) -> bool
     ensures { result ≡ catches (program_of tables.now) handler pc c }
 {

@@ -18,6 +18,7 @@ use heap::value::Value;
 use jinja::program::{ClassNumber, FieldPlace, Name};
 use tables::tables::Tables;
 
+#[inline(always)]
 pub(crate) fn getfield<H: Heap>(
     program: Program,
     heap: &H,
@@ -48,6 +49,7 @@ pub(crate) fn getfield<H: Heap>(
 }
 
 // What stands at a place of the object at an address.
+#[inline(always)]
 fn value_at<H: Heap>(heap: &H, a: u16, i: usize) -> Option<Value>
     ensures { result ≡ value_at (H.Heap.meaning heap.now) a i }
 {
@@ -55,6 +57,7 @@ fn value_at<H: Heap>(heap: &H, a: u16, i: usize) -> Option<Value>
 }
 
 // The value of the field that the class `c` declares, of the object at an address.
+#[inline(always)]
 pub(crate) fn field_value<H: Heap>(
     tables: &Tables,
     heap: &H,

@@ -14,6 +14,7 @@ use jinja::ty::Ty;
 use tables::tables::Tables;
 
 // Whether the value fits the type.
+#[inline(always)]
 pub(crate) fn fits<H: Heap>(tables: &Tables, heap: &H, v: Value, t: Ty) -> bool
     ensures { result ≡ fits (program_of tables.now) (H.Heap.meaning heap.now) v t }
 {
@@ -27,6 +28,7 @@ pub(crate) fn fits<H: Heap>(tables: &Tables, heap: &H, v: Value, t: Ty) -> bool
 }
 
 // Whether the value fits the type where there are no objects.
+#[inline(always)]
 fn fits_alone(tables: &Tables, v: Value, t: Ty) -> bool
     ensures { (ls : List ChargeLine) → result ≡ fits (program_of tables.now) (vacant ls) v t }
 {
@@ -40,6 +42,7 @@ fn fits_alone(tables: &Tables, v: Value, t: Ty) -> bool
 }
 
 // Whether there are as many values as types, and each fits.
+#[inline(always)]
 pub(crate) fn fit_all<H: Heap>(tables: &Tables, heap: &H, values: &[Value], types: &[Ty]) -> bool
     ensures { result ≡ fit_all (program_of tables.now) (H.Heap.meaning heap.now) values.now types.now }
 {

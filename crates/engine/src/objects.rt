@@ -13,6 +13,7 @@ use heap::store::Heap;
 use jinja::program::ClassNumber;
 
 // The class of the object at an address.
+#[inline(always)]
 pub(crate) fn class_at<H: Heap>(heap: &H, a: u16) -> Option<ClassNumber>
     ensures { result ≡ class_of (H.Heap.meaning heap.now) a }
 {
@@ -20,6 +21,7 @@ pub(crate) fn class_at<H: Heap>(heap: &H, a: u16) -> Option<ClassNumber>
 }
 
 // The object at `a` is thrown in the top frame.
+#[inline(always)]
 pub(crate) fn raise<H: Heap>(
     program: Program,
     heap: &H,

@@ -48,6 +48,7 @@ impl Frames {
     }
 
     // A frame of the method `k` on top, for this object and the `n` topmost operands of the frame below.
+    #[inline(always)]
     pub(crate) fn open_above(&mut self, k: usize, this: u16, n: usize, extras: usize)
         requires ready { Ready self.old }
         requires room { length (frames_of self.old) < frame_limit }
@@ -70,6 +71,7 @@ fn open_lowest(frames: &mut [Frame], k: usize, this: u16, args: &[Value], extras
 }
 
 // The frame at `at` is one of the method `k`, for this object and the `n` topmost operands of the frame below.
+#[inline(always)]
 fn open_at(frames: &mut [Frame], at: usize, k: usize, this: u16, n: usize, extras: usize)
     requires some { 0 < at }
     requires within { at < length frames.old }
@@ -84,6 +86,7 @@ fn open_at(frames: &mut [Frame], at: usize, k: usize, this: u16, n: usize, extra
 
 impl Frame {
     // The frame of a method at its first instruction, for this object and these arguments.
+    #[inline(always)]
     fn open(&mut self, k: usize, this: u16, args: &[Value], extras: usize)
         requires { 1 + length args.now + extras ≤ register_limit }
         ensures { frame_of self.new ≡ fresh k this args.now extras }

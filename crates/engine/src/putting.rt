@@ -19,6 +19,7 @@ use heap::value::Value;
 use jinja::program::{ClassNumber, FieldPlace, Name};
 use tables::tables::Tables;
 
+#[inline(always)]
 pub(crate) fn putfield<H: Heap>(
     program: Program,
     heap: &mut H,
@@ -46,6 +47,7 @@ pub(crate) fn putfield<H: Heap>(
 }
 
 // Puts the value at the field's place of the object at `a`.
+#[inline(always)]
 fn put<H: Heap>(
     tables: &Tables,
     heap: &mut H,
@@ -69,6 +71,7 @@ fn put<H: Heap>(
 }
 
 // Puts the value where the object at `a` has such a place.
+#[inline(always)]
 fn write<H: Heap>(heap: &mut H, a: u16, i: usize, v: Value) -> Option<()>
     ensures told { is_some result ≡ has_field (H.Heap.meaning heap.old) a i }
     ensures after { H.Heap.meaning heap.new ≡ after_write (H.Heap.meaning heap.old) a i v }

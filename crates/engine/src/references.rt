@@ -40,6 +40,7 @@ pub(crate) fn throw<H: Heap>(
     }
 }
 
+#[inline(always)]
 pub(crate) fn checkcast<H: Heap>(
     program: Program,
     heap: &H,
@@ -70,6 +71,7 @@ pub(crate) fn checkcast<H: Heap>(
 }
 
 // The object at `a`, on top, is cast to `c`.
+#[inline(always)]
 fn cast<H: Heap>(
     program: Program,
     heap: &H,

@@ -20,19 +20,20 @@ impl fmt::Display for Hex<'_> {
 
 /// The bytes that the words write together.
 pub fn bytes_of(alloc: Global, words: &[String]) -> Result<Vec<u8>, Stop> {
-    let mut digits = Vec::new(alloc);
+    let mut bytes = Vec::new(alloc);
+    // The first digit of a byte. (No list of digits: with it a line takes twice the memory.)
+    let mut first = None;
     for word in words {
         for c in word.as_str().chars() {
-            digits.push(c.to_digit(16).ok_or(NotUnderstood)? as u8)?;
+            let digit = c.to_digit(16).ok_or(NotUnderstood)? as u8;
+            match first.take() {
+                None => first = Some(digit),
+                Some(high) => bytes.push(high << 4 | digit)?,
+            }
         }
     }
-    match digits.as_slice().as_chunks::<2>() {
-        (pairs, []) => Ok(
-            pairs
-                .iter()
-                .map(|[high, low]| high << 4 | low)
-                .collect(alloc)?,
-        ),
-        _ => Err(Stop::NotUnderstood),
+    match first {
+        None => Ok(bytes),
+        Some(_) => Err(Stop::NotUnderstood),
     }
 }

@@ -41,7 +41,7 @@ impl<H: Heap> Machine<H> {
     {
         match self.phase {
             Phase::Idle => Err(Refusal::Idle),
-            _ => Ok(()),
+            Phase::Running | Phase::Finished | Phase::Uncaught => Ok(()),
         }
     }
 

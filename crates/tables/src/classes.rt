@@ -11,6 +11,7 @@ use jinja::program::{BUILT_IN, ClassNumber, OBJECT};
 
 impl Tables {
     /// Whether the number is that of a class, built in or own.
+    #[inline(always)]
     pub fn is_class(&self, c: ClassNumber) -> bool
         ensures { result ≡ is_class (program_of self.now) c }
     {
@@ -18,6 +19,7 @@ impl Tables {
     }
 
     /// The class that `c` extends; Object for itself, the other built-in classes and what is no class.
+    #[inline(always)]
     pub fn superclass(&self, c: ClassNumber) -> ClassNumber
         ensures { result ≡ superclass_of (program_of self.now) c }
     {
@@ -28,6 +30,7 @@ impl Tables {
     }
 
     /// Whether `c` is `d` or lies below it; what is no class lies below nothing.
+    #[inline(always)]
     pub fn at_or_below(&self, c: ClassNumber, d: ClassNumber) -> bool
         ensures { result ≡ at_or_below (program_of self.now) c d }
     {
@@ -39,6 +42,7 @@ impl Tables {
     // Four loops climb: this, `nearest` of methods, `row_within` and `field_at` of fields. Each keeps something else on the
     // way: a test, an option, a sum, an end. Over an iterator upward the library has lemmas for `any` and `sum`, none for
     // `find_map` and none for an end that falls; four loops alike are plainer than a mix.
+    #[inline(always)]
     fn climbs(&self, steps: u8, c: ClassNumber, d: ClassNumber) -> bool
         ensures climb { result ≡ climbs (program_of self.now) steps c d }
         ensures all { at_or_below (program_of self.now) c d ≡ (is_class (program_of self.now) c && climbs (program_of self.now) c c d) }
@@ -54,6 +58,7 @@ impl Tables {
     }
 
     // How many classes there are, the built-in ones included.
+    #[inline(always)]
     fn count_all(&self) -> usize
         ensures { result ≡ length (table (program_of self.now)) }
     {
@@ -61,13 +66,17 @@ impl Tables {
     }
 
     // The record of an own class.
+    #[inline(always)]
     pub(crate) fn class(&self, c: ClassNumber) -> Option<ClassRec>
         ensures record { result ≡ record_at self.now c }
         ensures superclass { superclass_of (program_of self.now) c ≡ maybe result 0 (λ d. d.superclass) }
         ensures methods { IfSome result (MethodsWithin (length (methods_of self.now))) }
         ensures fields { IfSome result (FieldsWithin (length (fields_of self.now))) }
     {
-        let i = (c as usize).checked_sub(BUILT_IN)?;
-        self.classes.get(i)
+        let c = c as usize;
+        if c < BUILT_IN {
+            return None;
+        }
+        self.classes.get(c - BUILT_IN)
     }
 }

@@ -16,6 +16,7 @@ use jinja::ty::Ty;
 
 impl Tables {
     /// The record of the method of number `k`. Where each method belongs to a class, it is the program's `k`-th.
+    #[inline(always)]
     pub fn method(&self, k: usize) -> Option<MethodRec>
         ensures record { result ≡ slice_get (methods_of self.now) k }
         ensures spans { MatchOption result (Lacks self.now k) (Stands self.now k) }
@@ -43,6 +44,7 @@ impl Tables {
     }
 
     /// The types of the parameters of a method, by its record.
+    #[inline(always)]
     pub fn params_from(&self, method: MethodRec) -> &[Ty]
         ensures { result.now ≡ part method.params (params_of self.now) }
     {
@@ -50,6 +52,7 @@ impl Tables {
     }
 
     /// The code of a method, by its record.
+    #[inline(always)]
     pub fn code_from(&self, method: MethodRec) -> &[Instr]
         ensures { result.now ≡ part method.code (instrs_of self.now) }
     {
@@ -61,7 +64,7 @@ impl Tables {
         ensures { result.now ≡ code_in self.now k }
     {
         match self.method(k) {
-            Some(method) => self.code_from(method),
+            Some(method) => method.code.all_of(self.instrs.as_slice()),
             None => &[],
         }
     }
@@ -71,7 +74,7 @@ impl Tables {
         ensures { result.now ≡ handlers_in self.now k }
     {
         match self.method(k) {
-            Some(method) => method.handlers.of(self.handlers.as_slice()),
+            Some(method) => method.handlers.all_of(self.handlers.as_slice()),
             None => &[],
         }
     }

@@ -14,6 +14,7 @@ use jinja::ty::Ty;
 
 impl Tables {
     /// How many values an object of class `c` has: its own fields and those of its superclasses.
+    #[inline(always)]
     pub fn row_len(&self, c: ClassNumber) -> usize
         ensures len { result ≡ length (fields_of (program_of self.now) c) }
         ensures few { result ≤ longest_row }
@@ -22,6 +23,7 @@ impl Tables {
     }
 
     /// Where the field of that name that `c` itself declares stands in an object's row, and its type.
+    #[inline(always)]
     pub fn own_field(&self, c: ClassNumber, name: Name) -> Option<FieldPlace>
         ensures { result ≡ own_field (program_of self.now) c name }
     {
@@ -62,6 +64,7 @@ impl Tables {
     }
 
     // The place among its own fields, and the type, of the field of that name that `c` declares.
+    #[inline(always)]
     fn declared(&self, c: ClassNumber, name: Name) -> Option<(usize, Ty)>
         ensures field { own_field (program_of self.now) c name ≡ maybe result None (λ p. Some (record { place = length (fields_of (program_of self.now) (superclass_of (program_of self.now) c)) + p.0; ty = p.1 })) }
         ensures few { IfSome result (λ p. p.0 < all_fields) }
@@ -72,6 +75,7 @@ impl Tables {
     }
 
     // The length of the row as far as so many steps up from `c`.
+    #[inline(always)]
     fn row_within(&self, steps: u8, c: ClassNumber) -> usize
         ensures climb { result ≡ length (fields_within (program_of self.now) steps c) }
         ensures all { steps ≡ c → result ≡ length (fields_of (program_of self.now) c) }
@@ -90,12 +94,13 @@ impl Tables {
     }
 
     /// The fields that `c` itself declares.
+    #[inline(always)]
     pub fn own_fields(&self, c: ClassNumber) -> &[Field]
         ensures fields { result.now ≡ own_fields (program_of self.now) c }
         ensures few { length result.now ≤ all_fields }
     {
         match self.class(c) {
-            Some(class) => class.fields.of(self.fields.as_slice()),
+            Some(class) => class.fields.all_of(self.fields.as_slice()),
             None => &[],
         }
     }

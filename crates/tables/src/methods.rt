@@ -9,6 +9,7 @@ use jinja::program::{ClassNumber, Name, OBJECT};
 
 impl Tables {
     /// The number of the method of that name that is declared nearest upward from `c`.
+    #[inline(always)]
     pub fn sees(&self, c: ClassNumber, name: Name) -> Option<usize>
         ensures { result ≡ sees (program_of self.now) c name }
     {
@@ -16,6 +17,7 @@ impl Tables {
     }
 
     // The method of that name nearest upward from `c`, within so many steps.
+    #[inline(always)]
     fn nearest(&self, steps: u8, c: ClassNumber, name: Name) -> Option<usize>
         ensures climb { result ≡ sees_within (program_of self.now) steps c name }
         ensures all { steps ≡ c → result ≡ sees (program_of self.now) c name }
@@ -32,11 +34,12 @@ impl Tables {
     }
 
     // The method of that name that `c` itself declares.
+    #[inline(always)]
     fn own_method(&self, c: ClassNumber, name: Name) -> Option<usize>
         ensures { result ≡ own_method (program_of self.now) c name }
     {
         let class = self.class(c)?;
-        let own = class.methods.of(self.methods.as_slice());
+        let own = class.methods.all_of(self.methods.as_slice());
         let i = position_of(own, name)?;
         Some(class.methods.first + i)
     }

@@ -30,6 +30,7 @@ impl Named for MethodRec {
 }
 
 /// Where the first item of that name stands.
+#[inline(always)]
 pub fn position_of<T: Named>(items: &[T], name: Name) -> Option<usize>
     ensures place { result ≡ position T.Named.called name items.now }
     ensures within { IfSome result (λ i. i < length items.now) }

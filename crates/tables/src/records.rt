@@ -1,6 +1,6 @@
 // The records of a set's tables. Lists of a class or a method are spans of flat tables.
 ghost use Rattle.std.specs.Prelude.{◌≡◌, ◌≤◌, length};
-ghost use Rattle.tables.specs.Spans.{part};
+ghost use Rattle.tables.specs.Spans.{part, Within};
 
 use jinja::program::{ClassNumber, Name};
 use jinja::ty::Ty;
@@ -14,6 +14,7 @@ pub struct Span {
 
 impl Span {
     /// Those of the items that lie in the span.
+    #[inline(always)]
     pub fn of<T>(self, items: &[T]) -> &[T]
         ensures items { result.now ≡ part self items.now }
         ensures few { length result.now ≤ length items.now }
@@ -21,6 +22,15 @@ impl Span {
         let first = self.first.min(items.len());
         let end = first + self.count.min(items.len() - first);
         &items[first..end]
+    }
+
+    // The items of the span, which lies in them: nothing is held to their number.
+    #[inline(always)]
+    pub(crate) fn all_of<T>(self, items: &[T]) -> &[T]
+        requires { Within (length items.now) self }
+        ensures { result.now ≡ part self items.now }
+    {
+        &items[self.first..self.first + self.count]
     }
 }
 
