@@ -37,8 +37,9 @@ fn step_in<H: Heap>(program: Program, heap: &mut H, frames: &mut Frames) -> Opti
     if frames.count == 0 {
         return None;
     }
-    let method = program.tables.method(frames.method())?;
-    let code = program.tables.code_from(method);
+    let k = frames.method();
+    let method = program.tables.method(k)?;
+    let code = program.tables.code_of(k);
     let pc = frames.pc();
     if pc >= code.len() {
         return None;
