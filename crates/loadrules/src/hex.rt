@@ -21,7 +21,7 @@ impl fmt::Display for Hex<'_> {
 /// The bytes that the words write together.
 pub fn bytes_of(alloc: Global, words: &[String]) -> Result<Vec<u8>, Stop> {
     let mut bytes = Vec::new(alloc);
-    // The first digit of a byte. (No list of digits: with it a line takes twice the memory.)
+    // The first digit of a byte. (No list of digits: with one a line takes 1.4 times the memory.)
     let mut first = None;
     for word in words {
         for c in word.as_str().chars() {
